@@ -1,0 +1,7 @@
+pub mod Rows
+pub mod Loops
+pub mod Weighing
+pub mod Cells
+pub mod Numbers
+pub mod Scans
+pub mod Acceptance

@@ -1,0 +1,3 @@
+pub mod Announced
+pub mod Conditions
+pub mod Rows

@@ -1,0 +1,231 @@
+// The check of a table (document 01): from its bytes to look-ahead, kept values, store words, room and closing turns, or to the number
+// and the place of the refusal. It assumes nothing.
+ghost use mathlib.Core.Path.{_≡_};
+ghost use Prim.Native.Nat.{ℕ, _+_, _-_, _*_, _≤_, _<_};
+ghost use lib.ListN.{length, take, getD};
+ghost use Rattle.basis.specs.Sums.{total, most};
+ghost use Rattle.square.specs.Square.{cell, riseBest};
+ghost use Rattle.announce.specs.Announced.{announced, refusal};
+ghost use Rattle.announce.specs.Rows.{RowPut, Weighs, Scanning, Fitting, numbersOf};
+use expression::Scanned;
+use table::Outcome;
+use table::Scan;
+
+// What the check announces. Numbers are by stream, 0 past the last one; a refusal has its number and place, and zeros.
+pub struct Checked {
+    pub number: u8,
+    pub place: usize,
+    pub look: [u16; 32],
+    pub kept: [u16; 32],
+    pub words: usize,
+    pub room: usize,
+    pub closing: u16,
+}
+
+fn refusal_of(number: u8, place: usize) -> Checked
+    ensures { λ r. ⌜ r ≡ refusal number place ⌝ }
+{
+    Checked {
+        number: number,
+        place: place,
+        look: [0u16; 32],
+        kept: [0u16; 32],
+        words: 0,
+        room: 0,
+        closing: 0,
+    }
+}
+
+// Puts a row of 32 numbers where those of the stream `y` stand.
+fn put_row(all: &mut [u16; 1024], y: usize, row: &[u16; 32])
+    requires { ⌜ (y < 32) × (length (now all) ≡ 1024) ⌝ }
+    ensures { λ r. ⌜ RowPut (now (all .entry)) y (now (row .entry)) (now (all .exit)) ⌝ }
+{
+    let mut v = 0;
+    while v < 32 {
+        all[y * 32 + v] = row[v];
+        v += 1;
+    }
+}
+
+// The weights of all edges: for each pair of streams the largest and the smallest, as `expression::scan_expr` notes them.
+struct Weights {
+    rise: [u16; 1024],
+    fall: [u16; 1024],
+}
+
+fn size(x: u16) -> usize
+    ensures { λ r. ⌜ (r ≡ x) × (r < 65536) ⌝ }
+{
+    x as usize
+}
+
+// The weights of a table that the scan accepted, each equation scanned once more from where its expression starts.
+fn weights_of(table: &[u8], scan: Scan) -> Weights
+    requires { ⌜ Scanning (now table) scan ⌝ }
+    ensures { λ r. ⌜ ((x : Scanning (now (table .entry)) scan) → Weighs (x .table) (r .rise) (r .fall)) ⌝ }
+{
+    let types = scan.types;
+    let starts = scan.starts;
+    let streams = scan.streams;
+    let mut rise = [0u16; 1024];
+    let mut fall = [0u16; 1024];
+    let mut y = scan.inputs;
+    while y < streams {
+        let wanted = types[y];
+        let start = size(starts[y]);
+        let mut row_rise = [0u16; 32];
+        let mut row_fall = [0u16; 32];
+        expression::scan_expr(
+            table,
+            &types,
+            streams,
+            wanted,
+            start,
+            16,
+            &mut row_rise,
+            &mut row_fall,
+        );
+        put_row(&mut rise, y, &row_rise);
+        put_row(&mut fall, y, &row_fall);
+        y += 1;
+    }
+    Weights {
+        rise: rise,
+        fall: fall,
+    }
+}
+
+// The square of the largest weights, NONE where there is no edge.
+fn square_of(rise: &[u16; 1024]) -> [[i64; 32]; 32]
+    requires { ⌜ length (now rise) ≡ 1024 ⌝ }
+    ensures { λ r. ⌜ ((y v : ℕ) → y < 32 → v < 32 → cell r y v ≡ riseBest (getD (now (rise .entry)) (y * 32 + v) 0)) ⌝ }
+{
+    let mut square = [[0i64; 32]; 32];
+    let mut y = 0;
+    while y < 32 {
+        let row = row_of(rise, y);
+        square[y] = square::square_row(&row);
+        y += 1;
+    }
+    square
+}
+
+// The 32 numbers of the stream `y`.
+fn row_of(all: &[u16; 1024], y: usize) -> [u16; 32]
+    requires { ⌜ (y < 32) × (length (now all) ≡ 1024) ⌝ }
+    ensures { λ r. ⌜ ((v : ℕ) → v < 32 → getD r v 0 ≡ getD (now (all .entry)) (y * 32 + v) 0) ⌝ }
+{
+    let mut row = [0u16; 32];
+    let mut v = 0;
+    while v < 32 {
+        row[v] = all[y * 32 + v];
+        v += 1;
+    }
+    row
+}
+
+// The sum of the first `s` numbers.
+fn sum(numbers: &[u16; 32], s: usize) -> usize
+    requires { ⌜ s ≤ 32 ⌝ }
+    ensures { λ r. ⌜ r ≡ total (λ v. getD (now (numbers .entry)) v 0) s ⌝ }
+{
+    let mut words = 0;
+    let mut v = 0;
+    while v < s {
+        words += size(numbers[v]);
+        v += 1;
+    }
+    words
+}
+
+// The largest of the first `s` numbers.
+fn largest(numbers: &[u16; 32], s: usize) -> u16
+    requires { ⌜ s ≤ 32 ⌝ }
+    ensures { λ r. ⌜ r ≡ most (λ v. getD (now (numbers .entry)) v 0) s ⌝ }
+{
+    let mut best = 0;
+    let mut v = 0;
+    while v < s {
+        if best < numbers[v] {
+            best = numbers[v];
+        }
+        v += 1;
+    }
+    best
+}
+
+fn role_size(x: u8) -> usize
+    ensures { λ r. ⌜ (r ≡ x) × (r < 256) ⌝ }
+{
+    x as usize
+}
+
+// How many of the first `s` streams are triggers.
+fn triggers(roles: &[u8; 32], s: usize) -> usize
+    requires { ⌜ s ≤ 32 ⌝ }
+    ensures { λ r. ⌜ r ≡ total (λ v. getD (now (roles .entry)) v 0) s ⌝ }
+{
+    let mut count = 0;
+    let mut v = 0;
+    while v < s {
+        count += role_size(roles[v]);
+        v += 1;
+    }
+    count
+}
+
+// The announced numbers of a table whose loops are all below 0, or refusal 8.
+fn numbers_of(scan: Scan, look: [u16; 32], fall: &[u16; 1024]) -> Checked
+    requires { ⌜ Fitting scan look (now fall) ⌝ }
+    ensures { λ r. ⌜ r ≡ numbersOf scan look (now (fall .entry)) ⌝ }
+{
+    let streams = scan.streams;
+    let roles = scan.roles;
+    let kept = square::kept_of(&look, fall, streams);
+    let words = sum(&kept, streams);
+    if 4096 < words {
+        return refusal_of(8, 0);
+    }
+    let room = 10 * (streams - scan.inputs) + 6 * triggers(&roles, streams);
+    let closing = largest(&look, streams);
+    Checked {
+        number: 0,
+        place: 0,
+        look: look,
+        kept: kept,
+        words: words,
+        room: room,
+        closing: closing,
+    }
+}
+
+// Refusals 7 and 8, and the announced numbers, of a table that the scan accepted.
+fn weigh_scan(table: &[u8], scan: Scan) -> Checked
+    requires { ⌜ Scanning (now table) scan ⌝ }
+    ensures { λ r. ⌜ r ≡ announced (now (table .entry)) ⌝ }
+{
+    let weights = weights_of(table, scan);
+    let rise = weights.rise;
+    let fall = weights.fall;
+    let verdict = square::weigh(square_of(&rise), scan.streams);
+    if verdict.ok {
+        let look = verdict.look;
+        numbers_of(scan, look, &fall)
+    } else {
+        refusal_of(7, verdict.place)
+    }
+}
+
+// The check of a table: number and place, and, where it is accepted, look-ahead and kept number of each stream, store words, room and
+// closing turns.
+pub fn check(table: &[u8]) -> Checked
+    ensures { λ r. ⌜ r ≡ announced (now (table .entry)) ⌝ }
+{
+    let scan = table::scan_table(table);
+    let outcome = scan.outcome;
+    match outcome {
+        Outcome::Refused(number, place) => refusal_of(number, place),
+        Outcome::Accepted => weigh_scan(table, scan),
+    }
+}

@@ -1,0 +1,5 @@
+pub mod Parts
+pub mod Tests
+pub mod Sums
+pub mod Edges
+pub mod Written

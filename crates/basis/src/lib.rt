@@ -1,0 +1,1 @@
+// Pure theory that several layers use: integers by their two parts, tests, lists. There is no code here.

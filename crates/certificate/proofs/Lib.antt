@@ -1,0 +1,5 @@
+pub mod Mask
+pub mod Certificate
+pub mod Tally
+pub mod Line
+pub mod Verdict

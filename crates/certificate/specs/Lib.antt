@@ -1,0 +1,3 @@
+pub mod Certificate
+pub mod Tally
+pub mod Line

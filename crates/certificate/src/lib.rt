@@ -1,0 +1,175 @@
+// A record's look-aheads and kept numbers as a certificate: tested in one pass over the equations' edges, without the square of longest walks
+// (document 01, "What the check announces"). `tight` holds each stream's tight targets as bits, `most` the largest slack of an edge into each
+// stream.
+ghost use mathlib.Core.Path.{_≡_};
+ghost use mathlib.Core.List.{List};
+ghost use Prim.Native.Nat.{ℕ, _+_, _-_, _<_, _≤_, max};
+ghost use Rattle.basis.specs.Edges.{Edge, among};
+ghost use Rattle.walks.specs.Walks.{Within};
+ghost use Rattle.certificate.specs.Certificate.{of, Settled};
+ghost use Rattle.certificate.specs.Tally.{marked, Tally, NotedCell, NotedRow};
+ghost use Rattle.certificate.specs.Line.{Ready, InLine, Agreed};
+
+// A number of a record, to reckon with.
+pub fn wide(x: u16) -> u32
+    ensures { λ r. ⌜ (r ≡ x) × (r < 65536) ⌝ }
+{
+    x as u32
+}
+
+// The set with `v` put in where the test holds.
+fn mark(set: u32, v: usize, test: bool) -> u32
+    requires { ⌜ v < 32 ⌝ }
+    ensures { λ r. ⌜ r ≡ marked set v test ⌝ }
+{
+    if test { set | 1 << v } else { set }
+}
+
+// The larger of `most` and of what `have` is above `want`.
+fn looser(most: u32, have: u32, want: u32) -> u32
+    ensures { λ r. ⌜ r ≡ max most (have - want) ⌝ }
+{
+    if want < have {
+        let slack = have - want;
+        if most < slack { slack } else { most }
+    } else {
+        most
+    }
+}
+
+// Notes the edges of y's equation to `v`: whether each has slack.
+fn note_cell(
+    tight: &mut [u32; 32],
+    most: &mut [u32; 32],
+    look: &[u16; 32],
+    rise: &[u16; 32],
+    fall: &[u16; 32],
+    y: usize,
+    v: usize,
+) -> bool
+    requires { ⌜ (y < 32) × (v < 32) ⌝ }
+    ensures { λ r. ⌜ ((s : ℕ) → v < s → NotedCell r y v s (of (now (look .entry))) (of (now (rise .entry))) (of (now (fall .entry))) (now (tight .entry)) (now (most .entry)) (now (tight .exit)) (now (most .exit))) ⌝ }
+{
+    let top = wide(rise[v]);
+    if top == 0 {
+        return true;
+    }
+    let have = wide(look[y]);
+    let ahead = wide(look[v]);
+    let want = top + ahead;
+    if have + 129 < want {
+        return false;
+    }
+    tight[y] = mark(tight[y], v, have + 129 == want);
+    most[v] = looser(most[v], have + wide(fall[v]), 128 + ahead);
+    true
+}
+
+// Notes the edges of y's equation, whose largest and smallest weights `rise` and `fall` hold: whether each has slack.
+pub fn note_row(
+    tight: &mut [u32; 32],
+    most: &mut [u32; 32],
+    look: &[u16; 32],
+    rise: &[u16; 32],
+    fall: &[u16; 32],
+    y: usize,
+    s: usize,
+) -> bool
+    requires { ⌜ (y < 32) × (s ≤ 32) ⌝ }
+    ensures { λ r. ⌜ NotedRow r y s (of (now (look .entry))) (of (now (rise .entry))) (of (now (fall .entry))) (now (tight .entry)) (now (most .entry)) (now (tight .exit)) (now (most .exit)) ⌝ }
+{
+    let mut v = 0;
+    while v < s {
+        if note_cell(tight, most, look, rise, fall, y, v) {
+            v += 1;
+        } else {
+            return false;
+        }
+    }
+    true
+}
+
+// The lowest stream of `rest` none of whose tight targets is in `rest`, or `s`.
+fn ready(tight: &[u32; 32], rest: u32, s: usize) -> usize
+    requires { ⌜ s ≤ 32 ⌝ }
+    ensures { λ r. ⌜ Ready (now (tight .entry)) rest s r ⌝ }
+{
+    let mut y = 0;
+    while y < s {
+        if (rest >> y) % 2 == 1 {
+            if tight[y] & rest == 0 {
+                return y;
+            }
+        }
+        y += 1;
+    }
+    s
+}
+
+// Whether the record's numbers agree with what was noted.
+fn agrees(tight: &[u32; 32], most: &[u32; 32], look: &[u16; 32], kept: &[u16; 32], s: usize) -> bool
+    requires { ⌜ s ≤ 32 ⌝ }
+    ensures { λ r. ⌜ Agreed r (now (tight .entry)) (now (most .entry)) (now (look .entry)) (now (kept .entry)) s ⌝ }
+{
+    let mut v = 0;
+    while v < s {
+        if kept[v] == 0 {
+            return false;
+        }
+        if wide(kept[v]) - 1 != most[v] {
+            return false;
+        }
+        if look[v] != 0 {
+            if tight[v] == 0 {
+                return false;
+            }
+        }
+        v += 1;
+    }
+    true
+}
+
+// Whether the streams can be put in order, and the order.
+pub struct Order {
+    pub ok: bool,
+    pub order: [u8; 32],
+}
+
+// The streams below `s`, each behind its tight targets.
+fn ordered(tight: &[u32; 32], s: usize) -> Order
+    requires { ⌜ s ≤ 32 ⌝ }
+    ensures { λ r. ⌜ InLine (r .ok) (now (tight .entry)) s (r .order) ⌝ }
+{
+    let mut order = [0u8; 32];
+    let mut rest: u32 = 4294967295;
+    let mut n = 0;
+    while n < s {
+        let y = ready(tight, rest, s);
+        if y < s {
+            order[n] = y as u8;
+            rest = rest ^ 1 << y;
+            n += 1;
+        } else {
+            return Order { ok: false, order };
+        }
+    }
+    Order { ok: true, order }
+}
+
+// The verdict on the record's numbers, once every equation is noted.
+pub fn settle(
+    tight: &[u32; 32],
+    most: &[u32; 32],
+    look: &[u16; 32],
+    kept: &[u16; 32],
+    s: usize,
+) -> Order
+    requires { ⌜ s ≤ 32 ⌝ }
+    ensures { λ r. ⌜ ((es : List Edge) → Within (among es) s → Tally (among es) (of (now (look .entry))) (now (tight .entry)) (now (most .entry)) → Settled (r .ok) (among es) s (of (now (look .entry))) (of (now (kept .entry))) (r .order)) ⌝ }
+{
+    if agrees(tight, most, look, kept, s) {
+        return ordered(tight, s);
+    }
+    let order = [0u8; 32];
+    Order { ok: false, order }
+}

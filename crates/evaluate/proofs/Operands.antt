@@ -1,0 +1,190 @@
+-- The value of an operator with its operands, one operand after the other, as the grammar reads them.
+-- Assumes nothing.
+use mathlib.Core.Path.{_≡_, refl, sym, ap, ap₂, _∙_}
+use mathlib.Core.List.{List}
+use Prim.Native.Nat.{ℕ, _-_, _≤_}
+use native.Mathlib.Omega.{arith}
+use borrow.Author.Tests.{eq-eqb, ne-eqb}
+use lib.Dec.{eqb}
+use lib.ListN.{length, take}
+use Rattle.expression.proofs.Operands.{parse-leaf, parse-operator}
+use Rattle.node.specs.Kinds.{ruleOf, meant}
+use Rattle.node.specs.Node.{headAt}
+use Rattle.expression.specs.Syntax.{Expr, leaf, unary, binary, ternary}
+use Rattle.expression.specs.Grammar.{Parsed, good, bad, andThen, orElse, operands, parse}
+use Rattle.node.specs.declared.Rule.{Rule}
+use Rattle.node.specs.declared.Node.{Node}
+use Rattle.node.specs.declared.Node.the-variants.{Constant, Now, At, Operator}
+use Rattle.node.specs.declared.Head.{Head}
+use Rattle.node.specs.declared.Head.the-variants as head
+use Rattle.value.specs.declared.Value.{Value}
+use Rattle.value.specs.Values.{applyOf, chooseOf}
+use Rattle.lola.specs.Models.{value, refer}
+use Rattle.evaluate.specs.Evaluation.{leafOf, Readable, Steps, stepOf, valueIn, evaluatedOf, Evaluates}
+use Rattle.meaning.specs.Expressions.{meaning}
+use Rattle.evaluate.specs.declared.Step.{Step}
+use Rattle.evaluate.specs.declared.Step.the-variants as steps
+use Rattle.evaluate.specs.declared.Evaluated.{Evaluated}
+use Rattle.evaluate.proofs.Heads.{none-refused, standing-at}
+
+-- what `andThen` gave came from a first part that is good
+pub record Got (q : Parsed) (f : Expr → ℕ → Parsed) (e : Expr) (m : ℕ) : Type 0 where
+  pub a : Expr
+  pub n : ℕ
+  pub is : q ≡ good a n
+  pub rest : f a n ≡ good e m
+
+then-good : (q : Parsed) (f : Expr → ℕ → Parsed) (e : Expr) (m : ℕ) → andThen q f ≡ good e m → Got q f e m
+then-good (good a n) f e m h = record { a = a; n = n; is = refl; rest = h }
+then-good (bad why at) f e m h = let z : _≡_ {A = ℕ} 0 1 = cc in absurd (omega arith)
+
+same-expr : {a e : Expr} {n m : ℕ} → good a n ≡ good e m → e ≡ a
+same-expr h = cc
+
+same-end : {a e : Expr} {n m : ℕ} → good a n ≡ good e m → m ≡ n
+same-end h = cc
+
+module _ (types kept st : List ℕ) (n j : ℕ) where
+  abbrev val : Expr → Value
+  val = valueIn types kept st n j
+
+  value-leaf : (node : Node) → leafOf types kept st n j node ≡ val (leaf node)
+  unfolding valueIn meaning value leafOf refer
+  value-leaf (Constant t x) = refl
+  value-leaf (Now v) = refl
+  value-leaf (At v k d) = refl
+  value-leaf (Operator k) = refl
+
+  value-unary : (k : ℕ) (a : Expr) → val (unary k a) ≡ applyOf k (val a) (val a)
+  unfolding valueIn meaning value
+  value-unary k a = refl
+
+  value-binary : (k : ℕ) (a b : Expr) → val (binary k a b) ≡ applyOf k (val a) (val b)
+  unfolding valueIn meaning value
+  value-binary k a b = refl
+
+  value-ternary : (k : ℕ) (a b c : Expr) → val (ternary k a b c) ≡ chooseOf (val a) (val b) (val c)
+  unfolding valueIn meaning value
+  value-ternary k a b c = refl
+
+  step-leaf : (h : Head) {v : Value} {next : ℕ} → stepOf types kept st n j h ≡ steps.Leaf v next → (node : Node) × ((h ≡ head.Leaf node next) × (v ≡ leafOf types kept st n j node))
+  unfolding stepOf
+  step-leaf (head.Refused why) e = let z : _≡_ {A = ℕ} 0 1 = cc in absurd (omega arith)
+  step-leaf (head.Leaf node m) e = (node, ((cc), (cc)))
+  step-leaf (head.Operator k m) e = let z : _≡_ {A = ℕ} 0 1 = cc in absurd (omega arith)
+
+  step-operator : (h : Head) {k next : ℕ} → ((why : ℕ) → h ≡ head.Refused why → ⊥) → stepOf types kept st n j h ≡ steps.Operator k next → h ≡ head.Operator k next
+  unfolding stepOf
+  step-operator (head.Refused why) z e = absurd (z why refl)
+  step-operator (head.Leaf node m) z e = let y : _≡_ {A = ℕ} 0 1 = cc in absurd (omega arith)
+  step-operator (head.Operator k m) z e = cc
+
+module _ (l : ℕ) (types kept parts st s : List ℕ) (n j place : ℕ) (x : Readable l types kept parts (length st) s place) where
+  abbrev ts : List ℕ
+  ts = take (x .streams) types
+
+  abbrev here : Head
+  here = headAt l ts s (x .wanted) place
+
+  pub level-left : 1 ≤ l
+  level-left = let f = standing-at x .level in omega (arith, f)
+
+  leaf-here : (node : Node) {next : ℕ} → here ≡ head.Leaf node next → good (leaf node) next ≡ good (x .expr) (x .behind)
+  leaf-here node e = sym (parse-leaf l ts s (x .wanted) place e) ∙ x .parsed
+
+  pub leaf-gives : {r : Step} {v : Value} {next : ℕ} → Steps l types kept parts st s n j place r → r ≡ steps.Leaf v next → evaluatedOf v next ≡ evaluatedOf (valueIn types kept st n j (x .expr)) (x .behind)
+  leaf-gives {r} {v} {next} h e =
+      let g = step-leaf types kept st n j here (sym (h x) ∙ e) in
+      let q : good (leaf (g .0)) next ≡ good (x .expr) (x .behind) = leaf-here (g .0) (g .1 .0) in
+      let a : v ≡ valueIn types kept st n j (x .expr) = g .1 .1 ∙ value-leaf types kept st n j (g .0) ∙ ap (valueIn types kept st n j) (sym (same-expr q)) in
+      λ i. record { value = a i; next = sym (same-end q) i }
+
+  -- an operator of the kind k, whose rule is r
+  module _ {o : Step} {k next : ℕ} {r : Rule} (h : Steps l types kept parts st s n j place o) (e : o ≡ steps.Operator k next) (er : r ≡ ruleOf k) where
+    operator-here : here ≡ head.Operator k next
+    operator-here = step-operator types kept st n j here (none-refused l ts s (x .wanted) place (x .parsed)) (sym (h x) ∙ e)
+
+    abbrev q : ℕ → ℕ → Parsed
+    q v m = parse (l - 1) ts s v m
+
+    abbrev third : Expr → Expr → Expr → ℕ → Parsed
+    third a b c m = good (ternary k a b c) m
+
+    abbrev second : Expr → Expr → ℕ → Parsed
+    second a b m = orElse (eqb (r .operands) 2) (good (binary k a b) m) λ _. andThen (q (meant (r .rest) (x .wanted)) m) (third a b)
+
+    abbrev first : Expr → ℕ → Parsed
+    first a m = orElse (eqb (r .operands) 1) (good (unary k a) m) λ _. andThen (q (meant (r .rest) (x .wanted)) m) (second a)
+
+    in-order : andThen (q (meant (r .first) (x .wanted)) next) first ≡ good (x .expr) (x .behind)
+    unfolding operands
+    in-order =
+        let whole : operands q (x .wanted) k (ruleOf k) next ≡ good (x .expr) (x .behind) = sym (parse-operator l ts s (x .wanted) place operator-here) ∙ x .parsed in
+        rw (← er) at whole
+
+    pub one : Got (q (meant (r .first) (x .wanted)) next) first (x .expr) (x .behind)
+    one = then-good _ _ _ _ in-order
+
+    abbrev pub first-readable : Readable (l - 1) types kept parts (length st) s next
+    first-readable = record { streams = x .streams; wanted = meant (r .first) (x .wanted); expr = one .a; behind = one .n; few = x .few; part = x .part; parsed = one .is }
+
+    module _ {r1 : Evaluated} (h1 : Evaluates (l - 1) types kept parts st s n j next r1) where
+      first-value : r1 .value ≡ valueIn types kept st n j (one .a)
+      first-value = ap (λ (z : Evaluated). z .value) (h1 first-readable)
+
+      first-end : r1 .next ≡ one .n
+      first-end = ap (λ (z : Evaluated). z .next) (h1 first-readable)
+
+      pub one-gives : {v : Value} → r .operands ≡ 1 → v ≡ applyOf k (r1 .value) (r1 .value) → evaluatedOf v (r1 .next) ≡ evaluatedOf (valueIn types kept st n j (x .expr)) (x .behind)
+      one-gives {v} o1 ev =
+          let g : good (unary k (one .a)) (one .n) ≡ good (x .expr) (x .behind) = rw (eq-eqb _ _ o1) at (one .rest) in
+          let a : v ≡ valueIn types kept st n j (x .expr)
+          = ev ∙ ap₂ (applyOf k) first-value first-value ∙ sym (value-unary types kept st n j k (one .a)) ∙ ap (valueIn types kept st n j) (sym (same-expr g)) in
+          λ i. record { value = a i; next = (first-end ∙ sym (same-end g)) i }
+
+      module _ (n1 : r .operands ≡ 1 → ⊥) where
+        after-first : andThen (q (meant (r .rest) (x .wanted)) (r1 .next)) (second (one .a)) ≡ good (x .expr) (x .behind)
+        after-first = rw first-end (rw (ne-eqb _ _ n1) at (one .rest))
+
+        pub two : Got (q (meant (r .rest) (x .wanted)) (r1 .next)) (second (one .a)) (x .expr) (x .behind)
+        two = then-good _ _ _ _ after-first
+
+        abbrev pub second-readable : Readable (l - 1) types kept parts (length st) s (r1 .next)
+        second-readable = record { streams = x .streams; wanted = meant (r .rest) (x .wanted); expr = two .a; behind = two .n; few = x .few; part = x .part; parsed = two .is }
+
+        module _ {r2 : Evaluated} (h2 : Evaluates (l - 1) types kept parts st s n j (r1 .next) r2) where
+          second-value : r2 .value ≡ valueIn types kept st n j (two .a)
+          second-value = ap (λ (z : Evaluated). z .value) (h2 second-readable)
+
+          second-end : r2 .next ≡ two .n
+          second-end = ap (λ (z : Evaluated). z .next) (h2 second-readable)
+
+          pub two-give : {v : Value} → r .operands ≡ 2 → v ≡ applyOf k (r1 .value) (r2 .value) → evaluatedOf v (r2 .next) ≡ evaluatedOf (valueIn types kept st n j (x .expr)) (x .behind)
+          two-give {v} o2 ev =
+              let g : good (binary k (one .a) (two .a)) (two .n) ≡ good (x .expr) (x .behind) = rw (eq-eqb _ _ o2) at (two .rest) in
+              let a : v ≡ valueIn types kept st n j (x .expr)
+              = ev ∙ ap₂ (applyOf k) first-value second-value ∙ sym (value-binary types kept st n j k (one .a) (two .a)) ∙ ap (valueIn types kept st n j) (sym (same-expr g)) in
+              λ i. record { value = a i; next = (second-end ∙ sym (same-end g)) i }
+
+          module _ (n2 : r .operands ≡ 2 → ⊥) where
+            after-second : andThen (q (meant (r .rest) (x .wanted)) (r2 .next)) (third (one .a) (two .a)) ≡ good (x .expr) (x .behind)
+            after-second = rw second-end (rw (ne-eqb _ _ n2) at (two .rest))
+
+            pub three : Got (q (meant (r .rest) (x .wanted)) (r2 .next)) (third (one .a) (two .a)) (x .expr) (x .behind)
+            three = then-good _ _ _ _ after-second
+
+            abbrev pub third-readable : Readable (l - 1) types kept parts (length st) s (r2 .next)
+            third-readable = record { streams = x .streams; wanted = meant (r .rest) (x .wanted); expr = three .a; behind = three .n; few = x .few; part = x .part; parsed = three .is }
+
+            module _ {r3 : Evaluated} (h3 : Evaluates (l - 1) types kept parts st s n j (r2 .next) r3) where
+              third-value : r3 .value ≡ valueIn types kept st n j (three .a)
+              third-value = ap (λ (z : Evaluated). z .value) (h3 third-readable)
+
+              third-end : r3 .next ≡ three .n
+              third-end = ap (λ (z : Evaluated). z .next) (h3 third-readable)
+
+              pub three-give : {v : Value} → v ≡ chooseOf (r1 .value) (r2 .value) (r3 .value) → evaluatedOf v (r3 .next) ≡ evaluatedOf (valueIn types kept st n j (x .expr)) (x .behind)
+              three-give {v} ev =
+                  let a : v ≡ valueIn types kept st n j (x .expr)
+                  = ev ∙ (λ i. chooseOf (first-value i) (second-value i) (third-value i)) ∙ sym (value-ternary types kept st n j k (one .a) (two .a) (three .a)) ∙ ap (valueIn types kept st n j) (sym (same-expr (three .rest))) in
+                  λ i. record { value = a i; next = (third-end ∙ sym (same-end (three .rest))) i }

@@ -1,0 +1,87 @@
+-- The value of an expression over the lent store (document 01, "A run"), and what the evaluator's functions answer of it. `types`, `kept` and
+-- `parts` hold a number for each stream, n is the number of rows known, j the position. Assumes nothing.
+use Prim.Native.Nat.{ℕ, _+_, _%_, _≤_, _<_}
+use mathlib.Core.Path.{_≡_}
+use mathlib.Core.Bool.{false}
+use mathlib.Core.List.{List}
+use lib.IntN.{ℤ}
+use lib.ListN.{length, getD, take}
+use Rattle.value.specs.declared.Value.{Value}
+use Rattle.value.specs.declared.Value.the-variants.{Flag}
+use Rattle.value.specs.Values.{readingOf}
+use Rattle.node.specs.declared.Node.{Node}
+use Rattle.node.specs.declared.Node.the-variants.{Constant, Now, At, Operator}
+use Rattle.node.specs.declared.Head.{Head}
+use Rattle.node.specs.declared.Head.the-variants as head
+use Rattle.expression.specs.Syntax.{Expr}
+use Rattle.expression.specs.Grammar.{good, parse}
+use Rattle.node.specs.Node.{headAt}
+use Rattle.lola.specs.Expressions.{at}
+use Rattle.meaning.specs.Expressions.{ops, meaning}
+use Rattle.lola.specs.Models.{value, refer}
+use Rattle.lola.specs.Run.{base}
+use Rattle.evaluate.specs.declared.Step.{Step}
+use Rattle.evaluate.specs.declared.Step.the-variants as steps
+use Rattle.evaluate.specs.declared.Evaluated.{Evaluated}
+
+-- a stream's number
+abbrev pub at0 : List ℕ → ℕ → ℕ
+at0 l v = getD l v 0
+
+-- "the value for position p lies in word p mod n of its part": the word of the store for position q of stream v
+abbrev pub slotOf : (kept : List ℕ) (v q : ℕ) → ℕ
+slotOf kept v q = base (at0 kept) v + q % getD kept v 0
+
+-- the value that the store has of v for position q, read at v's type
+unfoldable pub heldOf : (types kept st : List ℕ) → ℕ → ℕ → Value
+heldOf types kept st v q = readingOf (getD types v 0) (getD st (slotOf kept v q) 0)
+
+-- "The store holds one part for each stream, in stream order, as long as its kept number": v's starts where `parts` says, and a store of n
+-- words holds it
+pub record PartIn (kept parts : List ℕ) (n v : ℕ) : Type 0 where
+  pub some : 0 < getD kept v 0
+  pub start : getD parts v 0 ≡ base (at0 kept) v
+  pub within : getD parts v 0 + getD kept v 0 ≤ n
+
+-- "at(v, k) at position j is v at j+k, or the default where j+k is below 0 or not below N": d is the default's word
+abbrev pub referredOf : (types kept st : List ℕ) (n j v : ℕ) → ℤ → ℕ → Value
+referredOf types kept st n j v k d = refer (heldOf types kept st) n j (at v k (readingOf (getD types v 0) d))
+
+-- the value of a constant or a reference at position j. An operator is no leaf.
+unfoldable pub leafOf : (types kept st : List ℕ) (n j : ℕ) → Node → Value
+leafOf types kept st n j (Constant t x) = readingOf t x
+leafOf types kept st n j (Now v) = heldOf types kept st v j
+leafOf types kept st n j (At v k d) = referredOf types kept st n j v k d
+leafOf types kept st n j (Operator k) = Flag false
+
+-- the grammar reads an expression at a place of the table s with l levels left, and each of its streams has its part in a store of n words
+pub record Readable (l : ℕ) (types kept parts : List ℕ) (n : ℕ) (s : List ℕ) (place : ℕ) : Type 0 where
+  pub streams : ℕ
+  pub wanted : ℕ
+  pub expr : Expr
+  pub behind : ℕ
+  pub few : streams ≤ 32
+  pub part : (v : ℕ) → v < streams → PartIn kept parts n v
+  pub parsed : parse l (take streams types) s wanted place ≡ good expr behind
+
+-- the node at a place: a leaf's value or an operator's kind, with the place behind it. Where the grammar reads an expression none is refused.
+unfoldable pub stepOf : (types kept st : List ℕ) (n j : ℕ) → Head → Step
+stepOf types kept st n j (head.Refused why) = steps.Operator 0 0
+stepOf types kept st n j (head.Leaf node next) = steps.Leaf (leafOf types kept st n j node) next
+stepOf types kept st n j (head.Operator k next) = steps.Operator k next
+
+abbrev pub evaluatedOf : Value → ℕ → Evaluated
+evaluatedOf v m = record { value = v; next = m }
+
+-- definition 5 of source 004, over the store
+unfoldable pub valueIn : (types kept st : List ℕ) (n j : ℕ) → Expr → Value
+valueIn types kept st n j e = value ops (refer (heldOf types kept st) n j) (meaning types e)
+
+-- the contracts of `step_at` and `eval`, where the grammar reads an expression at the place
+abbrev pub Steps : (l : ℕ) (types kept parts st s : List ℕ) (n j place : ℕ) → Step → Type 0
+Steps l types kept parts st s n j place r =
+    (x : Readable l types kept parts (length st) s place) → r ≡ stepOf types kept st n j (headAt l (take (x .streams) types) s (x .wanted) place)
+
+abbrev pub Evaluates : (l : ℕ) (types kept parts st s : List ℕ) (n j place : ℕ) → Evaluated → Type 0
+Evaluates l types kept parts st s n j place r =
+    (x : Readable l types kept parts (length st) s place) → r ≡ evaluatedOf (valueIn types kept st n j (x .expr)) (x .behind)

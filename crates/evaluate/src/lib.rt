@@ -1,0 +1,305 @@
+// The evaluator over the table's own bytes, and the turn over the lent store (document 01, "A run"). `types`, `look`, `kept`, `parts`,
+// `starts` and `order` hold a number for each stream; `known` is the number of rows known.
+ghost use mathlib.Core.Path.{_≡_};
+ghost use Prim.Native.Nat.{_+_, _%_, _≤_, _<_, _^_};
+ghost use lib.ListN.{length, getD, set};
+ghost use Rattle.basis.specs.Parts.{up, down};
+ghost use Rattle.evaluate.specs.Evaluation.{slotOf, heldOf, referredOf, PartIn, Readable, Steps, Evaluates};
+ghost use Rattle.evaluate.specs.Turns.{Ready, Fresh, Settles, Turns};
+use node::Node;
+use value::Value;
+
+// An offset is up less down, one of the two being 0.
+fn up_of(k: i8) -> u64
+    ensures { λ r. ⌜ (r ≡ up k) × (r ≤ 128) ⌝ }
+{
+    if k < 0 { 0 } else { k as u64 }
+}
+
+fn down_of(k: i8) -> u64
+    ensures { λ r. ⌜ r ≡ down k ⌝ }
+{
+    if k < 0 { (-(k as i64)) as u64 } else { 0 }
+}
+
+// A stream's number as a wider one, with its bound.
+pub fn wide(x: u16) -> u64
+    ensures { λ r. ⌜ (r ≡ x) × (r < 65536) ⌝ }
+{
+    x as u64
+}
+
+fn size(x: u8) -> usize
+    ensures { λ r. ⌜ r ≡ x ⌝ }
+{
+    x as usize
+}
+
+// The word of the store for the position q of the stream v: "the value for position p lies in word p mod n of its part".
+pub fn slot(kept: &[u16; 32], parts: &[u16; 32], v: usize, q: u64) -> usize
+    requires { ⌜ (v < 32) × (0 < getD (now kept) v 0) ⌝ }
+    ensures { λ r. ⌜ r ≡ getD (now (parts .entry)) v 0 + q % getD (now (kept .entry)) v 0 ⌝ }
+{
+    let n = wide(kept[v]);
+    let first = wide(parts[v]);
+    (first + q % n) as usize
+}
+
+// The value that the store has of the stream v for the position q.
+fn held(
+    store: &[u32],
+    types: &[u8; 32],
+    kept: &[u16; 32],
+    parts: &[u16; 32],
+    v: usize,
+    q: u64,
+) -> Value
+    requires { ⌜ (v < 32) × PartIn (now kept) (now parts) (length (now store)) v ⌝ }
+    ensures { λ r. ⌜ r ≡ heldOf (now (types .entry)) (now (kept .entry)) (now (store .entry)) v q ⌝ }
+{
+    let i = slot(kept, parts, v, q);
+    value::reading(types[v], store[i])
+}
+
+// at(v, k) at position j: "v at j+k, or the default where j+k is below 0 or not below N". `word` is the default's.
+fn referred(
+    store: &[u32],
+    types: &[u8; 32],
+    kept: &[u16; 32],
+    parts: &[u16; 32],
+    known: u64,
+    j: u64,
+    v: usize,
+    k: i8,
+    word: u32,
+) -> Value
+    requires { ⌜ (j + 128 < 2 ^ 64) × ((v < 32) × PartIn (now kept) (now parts) (length (now store)) v) ⌝ }
+    ensures { λ r. ⌜ r ≡ referredOf (now (types .entry)) (now (kept .entry)) (now (store .entry)) known j v k word ⌝ }
+{
+    let up = j + up_of(k);
+    let down = down_of(k);
+    if down <= up {
+        let q = up - down;
+        if q < known {
+            return held(store, types, kept, parts, v, q);
+        }
+    }
+    value::reading(types[v], word)
+}
+
+// A leaf's value or an operator's kind, and the place behind the node.
+pub enum Step {
+    Leaf(Value, usize),
+    Operator(u8, usize),
+}
+
+// The node at `at`, with the place behind it.
+fn step_at(
+    bytes: &[u8],
+    store: &[u32],
+    types: &[u8; 32],
+    kept: &[u16; 32],
+    parts: &[u16; 32],
+    known: u64,
+    j: u64,
+    at: usize,
+    levels: u8,
+) -> Step
+    requires { ⌜ (j + 128 < 2 ^ 64) × Readable levels (now types) (now kept) (now parts) (length (now store)) (now bytes) at ⌝ }
+    ensures { λ r. ⌜ Steps levels (now (types .entry)) (now (kept .entry)) (now (parts .entry)) (now (store .entry)) (now (bytes .entry)) known j at r ⌝ }
+{
+    let kind = bytes[at];
+    let rule = node::rule_of(kind);
+    let start = at + 1;
+    let next = start + size(rule.body);
+    match node::node_of(bytes, kind, start) {
+        Node::Constant(t, w) => Step::Leaf(value::reading(t, w), next),
+        Node::Now(v) => Step::Leaf(held(store, types, kept, parts, size(v), j), next),
+        Node::At(v, k, w) => Step::Leaf(
+            referred(store, types, kept, parts, known, j, size(v), k, w),
+            next,
+        ),
+        Node::Operator(k) => Step::Operator(k, next),
+    }
+}
+
+// An expression's value, and the place behind the expression.
+pub struct Evaluated {
+    pub value: Value,
+    pub next: usize,
+}
+
+// The expression at `at`, with `levels` levels left.
+fn eval(
+    bytes: &[u8],
+    store: &[u32],
+    types: &[u8; 32],
+    kept: &[u16; 32],
+    parts: &[u16; 32],
+    known: u64,
+    j: u64,
+    at: usize,
+    levels: u8,
+) -> Evaluated
+    requires { ⌜ (j + 128 < 2 ^ 64) × Readable levels (now types) (now kept) (now parts) (length (now store)) (now bytes) at ⌝ }
+    ensures { λ r. ⌜ Evaluates levels (now (types .entry)) (now (kept .entry)) (now (parts .entry)) (now (store .entry)) (now (bytes .entry)) known j at r ⌝ }
+{
+    match step_at(bytes, store, types, kept, parts, known, j, at, levels) {
+        Step::Leaf(v, next) => Evaluated {
+            value: v,
+            next: next,
+        },
+        Step::Operator(kind, next) => {
+            let rule = node::rule_of(kind);
+            let left = levels - 1;
+            let one = eval(bytes, store, types, kept, parts, known, j, next, left);
+            let a = one.value;
+            if rule.operands == 1 {
+                return Evaluated {
+                    value: value::apply(kind, a, a),
+                    next: one.next,
+                };
+            }
+            let two = eval(bytes, store, types, kept, parts, known, j, one.next, left);
+            let b = two.value;
+            if rule.operands == 2 {
+                return Evaluated {
+                    value: value::apply(kind, a, b),
+                    next: two.next,
+                };
+            }
+            let three = eval(bytes, store, types, kept, parts, known, j, two.next, left);
+            let c = three.value;
+            Evaluated {
+                value: value::choose(a, b, c),
+                next: three.next,
+            }
+        }
+    }
+}
+
+// Writes the word of the stream v for the position q.
+fn put(store: &mut [u32], kept: &[u16; 32], parts: &[u16; 32], v: usize, q: u64, w: u32)
+    requires { ⌜ (v < 32) × PartIn (now kept) (now parts) (length (now store)) v ⌝ }
+    ensures { λ r. ⌜ now (store .exit) ≡ set (now (store .entry)) (slotOf (now (kept .entry)) v q) w ⌝ }
+{
+    let i = slot(kept, parts, v, q);
+    store[i] = w;
+}
+
+// The value of the stream y at `position`, from the row or from its equation.
+fn fresh(
+    bytes: &[u8],
+    store: &[u32],
+    row: &[u32],
+    types: &[u8; 32],
+    look: &[u16; 32],
+    kept: &[u16; 32],
+    parts: &[u16; 32],
+    starts: &[u16; 32],
+    order: &[u8; 32],
+    inputs: usize,
+    streams: usize,
+    known: u64,
+    position: u64,
+    y: usize,
+) -> Value
+    requires { ⌜ Ready (now bytes) (now types) (now look) (now kept) (now parts) (now starts) (now order) inputs streams (length (now store)) × ((position + 128 < 2 ^ 64) × ((y < streams) × (y < inputs → y < length (now row)))) ⌝ }
+    ensures { λ r. ⌜ Fresh (now (bytes .entry)) (now (types .entry)) (now (look .entry)) (now (kept .entry)) (now (parts .entry)) (now (starts .entry)) (now (order .entry)) inputs streams (now (row .entry)) (now (store .entry)) known position y r ⌝ }
+{
+    if y < inputs {
+        value::reading(types[y], row[y])
+    } else {
+        let place = wide(starts[y]) as usize;
+        let e = eval(bytes, store, types, kept, parts, known, position, place, 16);
+        e.value
+    }
+}
+
+// The stream y's step of turn t: "writes exactly the values, inputs included, whose position is that turn less their look-ahead and lies in
+// the trace".
+fn settle(
+    bytes: &[u8],
+    store: &mut [u32],
+    row: &[u32],
+    types: &[u8; 32],
+    look: &[u16; 32],
+    kept: &[u16; 32],
+    parts: &[u16; 32],
+    starts: &[u16; 32],
+    order: &[u8; 32],
+    inputs: usize,
+    streams: usize,
+    known: u64,
+    t: u64,
+    y: usize,
+)
+    requires { ⌜ Ready (now bytes) (now types) (now look) (now kept) (now parts) (now starts) (now order) inputs streams (length (now store)) × ((t + 128 < 2 ^ 64) × ((known + 65536 < 2 ^ 64) × ((y < streams) × (t < known → inputs ≤ length (now row))))) ⌝ }
+    ensures { λ r. ⌜ Settles (now (bytes .entry)) (now (types .entry)) (now (look .entry)) (now (kept .entry)) (now (parts .entry)) (now (starts .entry)) (now (order .entry)) inputs streams (now (row .entry)) (now (store .entry)) known t y (now (store .exit)) ⌝ }
+{
+    let ahead = wide(look[y]);
+    if ahead <= t {
+        if t < known + ahead {
+            let position = t - ahead;
+            let v = fresh(
+                bytes,
+                store,
+                row,
+                types,
+                look,
+                kept,
+                parts,
+                starts,
+                order,
+                inputs,
+                streams,
+                known,
+                position,
+                y,
+            );
+            put(store, kept, parts, y, position, value::image(v));
+        }
+    }
+}
+
+// Turn t, done in place: `order` has each stream behind those whose values of this very turn it reads.
+pub fn turn(
+    bytes: &[u8],
+    store: &mut [u32],
+    row: &[u32],
+    types: &[u8; 32],
+    look: &[u16; 32],
+    kept: &[u16; 32],
+    parts: &[u16; 32],
+    starts: &[u16; 32],
+    order: &[u8; 32],
+    inputs: usize,
+    streams: usize,
+    known: u64,
+    t: u64,
+)
+    requires { ⌜ Ready (now bytes) (now types) (now look) (now kept) (now parts) (now starts) (now order) inputs streams (length (now store)) × ((t + 128 < 2 ^ 64) × ((known + 65536 < 2 ^ 64) × (t < known → inputs ≤ length (now row)))) ⌝ }
+    ensures { λ r. ⌜ Turns (now (bytes .entry)) (now (types .entry)) (now (look .entry)) (now (kept .entry)) (now (parts .entry)) (now (starts .entry)) (now (order .entry)) inputs streams (now (row .entry)) (now (store .entry)) known t (now (store .exit)) ⌝ }
+{
+    let mut i: usize = 0;
+    while i < streams {
+        let y = size(order[i]);
+        settle(
+            bytes,
+            store,
+            row,
+            types,
+            look,
+            kept,
+            parts,
+            starts,
+            order,
+            inputs,
+            streams,
+            known,
+            t,
+            y,
+        );
+        i += 1;
+    }
+}

@@ -1,0 +1,154 @@
+-- What holds of the head at a place: a fault's number is 2 to 6; a node has no fault, ends in the table and behind its start, and refers
+-- to a stream of the table by an offset in range. Assumes nothing.
+use mathlib.Core.Path.{_≡_, refl, subst}
+use mathlib.Core.Bool.{cond}
+use mathlib.Core.List.{List}
+use mathlib.Core.Logic.{_⊎_, inl, inr}
+use Prim.Native.Nat.{ℕ, zero, suc, _+_, _-_, _≤_, _<_}
+use native.Mathlib.Omega.{arith}
+use borrow.Author.Tests.{eqb-true, eqb-false, leb-true, ltb-true, ltb-false}
+use lib.Dec.{eqb, leb, ltb}
+use lib.IntN.{ℤ, pos, negsuc}
+use lib.ListN.{length, getD, take, length-take}
+use Rattle.basis.proofs.Tests.{pick-case}
+use Rattle.node.specs.declared.Node.{Node}
+use Rattle.node.specs.declared.Node.the-variants.{Constant, Now, At, Operator}
+use Rattle.node.specs.declared.NodeRead.{NodeRead}
+use Rattle.node.specs.declared.NodeRead.the-variants.{Fault, Got}
+use Rattle.node.specs.declared.Head.{Head}
+use Rattle.node.specs.declared.Head.the-variants as head
+use Rattle.node.specs.Kinds.{ruleOf}
+use Rattle.node.specs.Node.{signedOf, nodeOf, nodeBy, nodeAt, typeFault, wordFault, zeroFault, first, faultOf, headOf, headBy, headAt}
+use Rattle.expression.specs.References.{NodeRefers, Ranged}
+
+-- ---- the faults of a node
+
+-- no fault, or a fault of the number 4 or 5
+abbrev FourOrFive : ℕ → Type 0
+FourOrFive n = (n ≡ 0) ⊎ ((4 ≤ n) × (n ≤ 5))
+
+type-fault : (t w : ℕ) → FourOrFive (typeFault t w)
+unfolding typeFault
+type-fault t w = pick-case FourOrFive (eqb t w) 0 5 (λ _. inl refl) (λ _. inr (omega arith))
+
+word-fault : (t x : ℕ) → FourOrFive (wordFault t x)
+unfolding wordFault
+word-fault t x =
+    pick-case FourOrFive (eqb t 0) _ 0 (λ _. pick-case FourOrFive (ltb 1 x) 4 0 (λ _. inr (omega arith)) (λ _. inl refl)) (λ _. inl refl)
+
+zero-fault : (k : ℤ) → FourOrFive (zeroFault k)
+unfolding zeroFault
+zero-fault (pos zero) = inr (omega arith)
+zero-fault (pos (suc n)) = inl refl
+zero-fault (negsuc n) = inl refl
+
+first-fault : (a b : ℕ) → FourOrFive a → FourOrFive b → FourOrFive (first a b)
+unfolding first
+first-fault a b f g = pick-case FourOrFive (eqb a 0) b a (λ _. g) (λ _. f)
+
+fault-number : (ts : List ℕ) (w : ℕ) (n : Node) → FourOrFive (faultOf ts w n)
+unfolding faultOf
+fault-number ts w (Constant t x) = first-fault _ _ (word-fault t x) (type-fault t w)
+fault-number ts w (Now v) = pick-case FourOrFive (ltb v (length ts)) _ 4 (λ _. type-fault _ w) (λ _. inr (omega arith))
+fault-number ts w (At v k d) =
+    pick-case FourOrFive (ltb v (length ts)) _ 4 (λ _. first-fault _ _ (zero-fault k) (first-fault _ _ (word-fault _ d) (type-fault _ w))) (λ _. inr (omega arith))
+fault-number ts w (Operator k) = type-fault _ w
+
+below-of : (v n x : ℕ) → cond (ltb v n) x 4 ≡ 0 → (v < n) × (x ≡ 0)
+below-of v n x = pick-case (λ (y : ℕ). y ≡ 0 → (v < n) × (x ≡ 0)) (ltb v n) x 4 (λ p q. (ltb-true v n p, q)) (λ _ q. absurd (omega arith))
+
+not-zero : (k : ℤ) (b : ℕ) → first (zeroFault k) b ≡ 0 → k ≡ pos 0 → ⊥
+unfolding first zeroFault
+not-zero k b q e = let z : _≡_ {A = ℕ} 4 0 = rw e at q in omega arith
+
+-- ---- the offset of a node that is read
+
+abbrev OffsetRanged : Node → Type 0
+OffsetRanged (Constant t x) = Unit {0}
+OffsetRanged (Now v) = Unit {0}
+OffsetRanged (At v k d) = Ranged k
+OffsetRanged (Operator k) = Unit {0}
+
+signed-ranged : (b : ℕ) → Ranged (signedOf b)
+unfolding signedOf
+signed-ranged b = pick-case Ranged (ltb b 128) _ _ (λ p. record { ahead = omega (arith, ltb-true b 128 p); back = omega arith }) (λ p. record { ahead = omega arith; back = omega (arith, ltb-false b 128 p) })
+
+node-ranged : (s : List ℕ) (k at : ℕ) → OffsetRanged (nodeOf s k at)
+unfolding nodeOf
+node-ranged s k at =
+    pick-case OffsetRanged (eqb k 0x10) _ _ (λ _. tt) λ _.
+    pick-case OffsetRanged (eqb k 0x11) _ _ (λ _. tt) λ _.
+    pick-case OffsetRanged (eqb k 0x12) _ _ (λ _. tt) λ _.
+    pick-case OffsetRanged (eqb k 0x13) _ _ (λ _. tt) λ _.
+    pick-case OffsetRanged (eqb k 0x14) _ _ (λ _. signed-ranged _) (λ _. tt)
+
+-- a reference without a fault is to a stream of the table
+pub fault-free-refers : (ts : List ℕ) (w : ℕ) (n : Node) → faultOf ts w n ≡ 0 → OffsetRanged n → NodeRefers (length ts) n
+unfolding faultOf
+fault-free-refers ts w (Constant t x) q r = tt
+fault-free-refers ts w (Now v) q r = below-of v (length ts) _ q .0
+fault-free-refers ts w (At v k d) q r = let b = below-of v (length ts) _ q in (b .0, r, not-zero k _ (b .1))
+fault-free-refers ts w (Operator k) q r = tt
+
+-- ---- the head at a place
+
+abbrev NodeSound : List ℕ → ℕ → NodeRead → Type 0
+NodeSound s at (Fault why) = (2 ≤ why) × (why ≤ 6)
+NodeSound s at (Got n m) = OffsetRanged n × (at < m) × (m ≤ length s)
+
+node-sound : (s : List ℕ) (at : ℕ) → NodeSound s at (nodeAt s at)
+unfolding nodeAt nodeBy
+node-sound s at =
+    pick-case (NodeSound s at) (ltb at (length s)) _ _
+    (λ _. pick-case (NodeSound s at) (eqb (ruleOf (getD s at 0) .form) 0) _ _ (λ _. omega arith)
+    (λ _. pick-case (NodeSound s at) (leb (at + 1 + ruleOf (getD s at 0) .body) (length s)) _ _ (λ p. (node-ranged s _ _, omega arith, leb-true _ _ p)) (λ _. omega arith)))
+    (λ _. omega arith)
+
+-- a node that a head may hand on
+pub record Fine (ts s : List ℕ) (w at : ℕ) (n : Node) (m : ℕ) : Type 0 where
+  pub faultless : faultOf ts w n ≡ 0
+  pub refers : NodeRefers (length ts) n
+  pub behind : at < m
+  pub within : m ≤ length s
+
+abbrev pub HeadSound : List ℕ → List ℕ → ℕ → ℕ → Head → Type 0
+HeadSound ts s w at (head.Refused why) = (2 ≤ why) × (why ≤ 6)
+HeadSound ts s w at (head.Leaf n m) = Fine ts s w at n m
+HeadSound ts s w at (head.Operator k m) = Fine ts s w at (Operator k) m
+
+head-of : (ts s : List ℕ) (w at : ℕ) (n : Node) (m : ℕ) → Fine ts s w at n m → HeadSound ts s w at (headOf n m)
+unfolding headOf
+head-of ts s w at (Constant t x) m f = f
+head-of ts s w at (Now v) m f = f
+head-of ts s w at (At v k d) m f = f
+head-of ts s w at (Operator k) m f = f
+
+head-by : (l : ℕ) (ts s : List ℕ) (w at : ℕ) (r : NodeRead) → NodeSound s at r → HeadSound ts s w at (headBy l ts w r)
+unfolding headBy
+head-by l ts s w at (Fault why) h = h
+head-by l ts s w at (Got n m) h =
+    pick-case (HeadSound ts s w at) (eqb l 0) _ _ (λ _. omega arith)
+    (λ _. pick-case (HeadSound ts s w at) (eqb (faultOf ts w n) 0) _ _ (λ p. fine (eqb-true _ _ p)) (λ p. number (eqb-false _ _ p) (fault-number ts w n)))
+  where
+    fine : faultOf ts w n ≡ 0 → HeadSound ts s w at (headOf n m)
+    fine q = head-of ts s w at n m (record { faultless = q; refers = fault-free-refers ts w n q (h .0); behind = h .1; within = h .2 })
+
+    number : {x : ℕ} → (x ≡ 0 → ⊥) → FourOrFive x → (2 ≤ x) × (x ≤ 6)
+    number f (inl e) = absurd (f e)
+    number f (inr g) = omega arith
+
+pub head-sound : (l : ℕ) (ts s : List ℕ) (w at : ℕ) → HeadSound ts s w at (headAt l ts s w at)
+unfolding headAt
+head-sound l ts s w at = head-by l ts s w at (nodeAt s at) (node-sound s at)
+
+more-streams : {S T : ℕ} (n : Node) → S ≤ T → NodeRefers S n → NodeRefers T n
+more-streams (Constant t x) h r = tt
+more-streams (Now v) h r = omega arith
+more-streams (At v k d) h r = (omega arith, r .1, r .2)
+more-streams (Operator k) h r = tt
+
+-- a leaf refers to one of 32 streams
+pub leaf-refers : (l streams : ℕ) (types s : List ℕ) (w at : ℕ) {n : Node} {next : ℕ} → streams ≤ 32 → headAt l (take streams types) s w at ≡ head.Leaf n next → NodeRefers 32 n
+leaf-refers l streams types s w at {n} h e =
+    let f = subst (HeadSound (take streams types) s w at) e (head-sound l (take streams types) s w at) in
+    more-streams n (omega (arith, length-take streams types)) (f .refers)

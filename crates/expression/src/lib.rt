@@ -1,0 +1,107 @@
+// The scan of an expression: the place behind it or its first fault, and its references noted by the way.
+// `streams` is the number of the table's streams, whose types are the first entries of `types`.
+ghost use mathlib.Core.Path.{_≡_};
+ghost use Prim.Native.Nat.{_≤_, _<_};
+ghost use lib.ListN.{length, take};
+ghost use Rattle.expression.specs.Grammar.{parse};
+ghost use Rattle.expression.specs.References.{rising, falling, raised, nodeNoted, NodeRefers, Scans};
+use node::Head;
+use node::Node;
+
+// What a scan answers: the place behind the expression, or the number and the place of its first fault.
+pub enum Scanned {
+    Ends(usize),
+    Refused(u8, usize),
+}
+
+// An offset from -128 to 127 as a number from 1 to 256.
+fn rising_of(k: i8) -> u16
+    ensures { λ r. ⌜ r ≡ rising k ⌝ }
+{
+    (k as i16 + 129) as u16
+}
+
+// The same in falling order.
+fn falling_of(k: i8) -> u16
+    ensures { λ r. ⌜ r ≡ falling k ⌝ }
+{
+    (128 - k as i16) as u16
+}
+
+// Raises the entry of `v` to `x`, if it is less.
+fn raise(notes: &mut [u16; 32], v: usize, x: u16)
+    requires { ⌜ v < 32 ⌝ }
+    ensures { λ _. ⌜ now (notes .exit) ≡ raised v x (now (notes .entry)) ⌝ }
+{
+    if notes[v] < x {
+        notes[v] = x;
+    }
+}
+
+// Notes the reference of a node, if it has one.
+fn note(rise: &mut [u16; 32], fall: &mut [u16; 32], node: Node)
+    requires { ⌜ NodeRefers 32 node ⌝ }
+    ensures { λ _. ⌜ (now (rise .exit) ≡ nodeNoted rising node (now (rise .entry))) × (now (fall .exit) ≡ nodeNoted falling node (now (fall .entry))) ⌝ }
+{
+    match node {
+        Node::Constant(_, _) => {}
+        Node::Now(v) => {
+            let i = v as usize;
+            raise(rise, i, 129);
+            raise(fall, i, 128);
+        }
+        Node::At(v, k, _) => {
+            let i = v as usize;
+            raise(rise, i, rising_of(k));
+            raise(fall, i, falling_of(k));
+        }
+        Node::Operator(_) => {}
+    }
+}
+
+// The place behind the expression of the type `wanted` at `at`, or its first fault, with `levels` levels left. Its references are noted:
+// `rise` and `fall` hold the largest and the smallest weight to each stream.
+pub fn scan_expr(
+    table: &[u8],
+    types: &[u8; 32],
+    streams: usize,
+    wanted: u8,
+    at: usize,
+    levels: u8,
+    rise: &mut [u16; 32],
+    fall: &mut [u16; 32],
+) -> Scanned
+    requires { ⌜ (streams ≤ 32) × (length (now types) ≡ 32) ⌝ }
+    ensures { λ r. ⌜ Scans (parse levels (take streams (now (types .entry))) (now (table .entry)) wanted at) (now (rise .entry)) (now (fall .entry)) (now (rise .exit)) (now (fall .exit)) r ⌝ }
+{
+    match node::head_at(table, types, streams, wanted, at, levels) {
+        Head::Refused(no) => Scanned::Refused(no, at),
+        Head::Leaf(node, next) => {
+            note(rise, fall, node);
+            Scanned::Ends(next)
+        }
+        Head::Operator(kind, next) => {
+            let rule = node::rule_of(kind);
+            let first = node::meant_type(rule.first, wanted);
+            let rest = node::meant_type(rule.rest, wanted);
+            let left = levels - 1;
+            match scan_expr(table, types, streams, first, next, left, rise, fall) {
+                Scanned::Refused(no, place) => Scanned::Refused(no, place),
+                Scanned::Ends(second) => {
+                    if rule.operands == 1 {
+                        return Scanned::Ends(second);
+                    }
+                    match scan_expr(table, types, streams, rest, second, left, rise, fall) {
+                        Scanned::Refused(no, place) => Scanned::Refused(no, place),
+                        Scanned::Ends(third) => {
+                            if rule.operands == 2 {
+                                return Scanned::Ends(third);
+                            }
+                            scan_expr(table, types, streams, rest, third, left, rise, fall)
+                        }
+                    }
+                }
+            }
+        }
+    }
+}

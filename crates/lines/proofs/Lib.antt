@@ -1,0 +1,4 @@
+pub mod Decimals
+pub mod Lengths
+pub mod Records
+pub mod Listing

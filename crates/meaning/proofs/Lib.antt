@@ -1,0 +1,5 @@
+pub mod Types
+pub mod Operators
+pub mod Typing
+pub mod Graph
+pub mod Accepted

@@ -1,0 +1,3 @@
+pub mod Expressions
+pub mod Tables
+pub mod Plans

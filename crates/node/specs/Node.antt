@@ -1,0 +1,87 @@
+-- One expression node: its decoding, and its faults in their order where a type is wanted: "missing kind byte (2), 3, missing body (2), 6,
+-- 4, 5" (document 01, "The table" and "Refusal numbers"). Assumes nothing.
+use Prim.Native.Nat.{ℕ, zero, suc, _+_, _-_, _*_}
+use mathlib.Core.Bool.{cond}
+use mathlib.Core.List.{List}
+use lib.Dec.{ltb, leb, eqb}
+use lib.ListN.{length, getD}
+use lib.IntN.{ℤ, pos, negsuc}
+use Rattle.node.specs.declared.Rule.{Rule}
+use Rattle.node.specs.declared.Node.{Node}
+use Rattle.node.specs.declared.Node.the-variants.{Constant, Now, At, Operator}
+use Rattle.node.specs.declared.NodeRead.{NodeRead}
+use Rattle.node.specs.declared.NodeRead.the-variants.{Fault, Got}
+use Rattle.node.specs.declared.Head.{Head}
+use Rattle.node.specs.declared.Head.the-variants as head
+use Rattle.node.specs.Kinds.{ruleOf, meant}
+
+-- "Numbers are little-endian": the four bytes from a place on
+unfoldable pub wordAt : List ℕ → ℕ → ℕ
+wordAt s at = getD s at 0 + getD s (at + 1) 0 * 256 + getD s (at + 2) 0 * 65536 + getD s (at + 3) 0 * 16777216
+
+-- "signed offset byte k"
+unfoldable pub signedOf : ℕ → ℤ
+signedOf b = cond (ltb b 128) (pos b) (negsuc (255 - b))
+
+-- the node of the kind k whose body starts at a place: constant, now, at, operator
+unfoldable pub nodeOf : List ℕ → ℕ → ℕ → Node
+nodeOf s k at =
+    cond (eqb k 0x10) (Constant 0 (getD s at 0))
+    (cond (eqb k 0x11) (Constant 1 (wordAt s at))
+    (cond (eqb k 0x12) (Constant 2 (wordAt s at))
+    (cond (eqb k 0x13) (Now (getD s at 0))
+    (cond (eqb k 0x14) (At (getD s at 0) (signedOf (getD s (at + 1) 0)) (wordAt s (at + 2)))
+    (Operator k)))))
+
+-- a record whose kind has the rule r: the kind is allowed, then the body is there
+unfoldable pub nodeBy : List ℕ → ℕ → ℕ → Rule → NodeRead
+nodeBy s at k r =
+    cond (eqb (r .form) 0) (Fault 3)
+    (cond (leb (at + 1 + r .body) (length s)) (Got (nodeOf s k (at + 1)) (at + 1 + r .body)) (Fault 2))
+
+-- the node at a place and the place behind its body, or the number of the fault
+unfoldable pub nodeAt : List ℕ → ℕ → NodeRead
+nodeAt s at = cond (ltb at (length s)) (nodeBy s at (getD s at 0) (ruleOf (getD s at 0))) (Fault 2)
+
+-- 5: "node not of the wanted type"
+unfoldable pub typeFault : ℕ → ℕ → ℕ
+typeFault t w = cond (eqb t w) 0 5
+
+-- 4: "flag constant or flag default above 1"
+unfoldable pub wordFault : ℕ → ℕ → ℕ
+wordFault t x = cond (eqb t 0) (cond (ltb 1 x) 4 0) 0
+
+-- 4: "k = 0"
+unfoldable pub zeroFault : ℤ → ℕ
+zeroFault (pos zero) = 4
+zeroFault (pos (suc n)) = 0
+zeroFault (negsuc n) = 0
+
+-- the first of two numbers that is not 0
+unfoldable pub first : ℕ → ℕ → ℕ
+first a b = cond (eqb a 0) b a
+
+-- 0, or the number of the fault of a node over streams of the types ts where the type w is wanted; 4 is also "stream not below S"
+unfoldable pub faultOf : List ℕ → ℕ → Node → ℕ
+faultOf ts w (Constant t x) = first (wordFault t x) (typeFault t w)
+faultOf ts w (Now v) = cond (ltb v (length ts)) (typeFault (getD ts v 0) w) 4
+faultOf ts w (At v k d) =
+    cond (ltb v (length ts)) (first (zeroFault k) (first (wordFault (getD ts v 0) d) (typeFault (getD ts v 0) w))) 4
+faultOf ts w (Operator k) = typeFault (meant (ruleOf k .result) w) w
+
+-- a node without a fault
+unfoldable pub headOf : Node → ℕ → Head
+headOf (Constant t x) next = head.Leaf (Constant t x) next
+headOf (Now v) next = head.Leaf (Now v) next
+headOf (At v k d) next = head.Leaf (At v k d) next
+headOf (Operator k) next = head.Operator k next
+
+-- 6: "node at level 17"
+unfoldable pub headBy : ℕ → List ℕ → ℕ → NodeRead → Head
+headBy l ts w (Fault why) = head.Refused why
+headBy l ts w (Got node next) =
+    cond (eqb l 0) (head.Refused 6) (cond (eqb (faultOf ts w node) 0) (headOf node next) (head.Refused (faultOf ts w node)))
+
+-- what stands at a place where a node of the type w is wanted, with l levels left
+unfoldable pub headAt : ℕ → List ℕ → List ℕ → ℕ → ℕ → Head
+headAt l ts s w at = headBy l ts w (nodeAt s at)

@@ -1,0 +1,391 @@
+// One record of a table: the constant table of kinds, the expression node that stands at a place, and its faults where a type is
+// wanted (document 01, "The table" and "Refusal numbers").
+ghost use mathlib.Core.Path.{_≡_};
+ghost use Prim.Native.Nat.{ℕ, _+_, _*_, _≤_};
+ghost use lib.ListN.{length, take};
+ghost use Rattle.node.specs.Kinds.{ruleOf, meant};
+ghost use Rattle.node.specs.Node.{wordAt, signedOf, nodeOf, nodeAt, typeFault, wordFault, zeroFault, faultOf, headAt};
+
+// What a kind byte fixes. form: 0 no expression node, 1 constant, 2 now, 3 at, 4 operator. A type is 0 flag, 1 word, 2 level, and
+// 3 stands for the wanted type.
+pub struct Rule {
+    pub form: u8,
+    pub body: u8,
+    pub operands: u8,
+    pub first: u8,
+    pub rest: u8,
+    pub result: u8,
+}
+
+// Of every other kind.
+const NO_NODE: Rule = Rule {
+    form: 0,
+    body: 0,
+    operands: 0,
+    first: 0,
+    rest: 0,
+    result: 0,
+};
+
+const FLAG_CONSTANT: Rule = Rule {
+    form: 1,
+    body: 1,
+    operands: 0,
+    first: 0,
+    rest: 0,
+    result: 0,
+};
+
+const WORD_CONSTANT: Rule = Rule {
+    form: 1,
+    body: 4,
+    operands: 0,
+    first: 0,
+    rest: 0,
+    result: 1,
+};
+
+const LEVEL_CONSTANT: Rule = Rule {
+    form: 1,
+    body: 4,
+    operands: 0,
+    first: 0,
+    rest: 0,
+    result: 2,
+};
+
+const NOW: Rule = Rule {
+    form: 2,
+    body: 1,
+    operands: 0,
+    first: 0,
+    rest: 0,
+    result: 3,
+};
+
+const AT: Rule = Rule {
+    form: 3,
+    body: 6,
+    operands: 0,
+    first: 0,
+    rest: 0,
+    result: 3,
+};
+
+const NOT: Rule = Rule {
+    form: 4,
+    body: 0,
+    operands: 1,
+    first: 0,
+    rest: 0,
+    result: 0,
+};
+
+const IF: Rule = Rule {
+    form: 4,
+    body: 0,
+    operands: 3,
+    first: 0,
+    rest: 3,
+    result: 3,
+};
+
+// Two operands of a type, and the type of the result.
+const FLAGS_TO_FLAG: Rule = Rule {
+    form: 4,
+    body: 0,
+    operands: 2,
+    first: 0,
+    rest: 0,
+    result: 0,
+};
+
+const WORDS_TO_WORD: Rule = Rule {
+    form: 4,
+    body: 0,
+    operands: 2,
+    first: 1,
+    rest: 1,
+    result: 1,
+};
+
+const WORDS_TO_FLAG: Rule = Rule {
+    form: 4,
+    body: 0,
+    operands: 2,
+    first: 1,
+    rest: 1,
+    result: 0,
+};
+
+const LEVELS_TO_LEVEL: Rule = Rule {
+    form: 4,
+    body: 0,
+    operands: 2,
+    first: 2,
+    rest: 2,
+    result: 2,
+};
+
+const LEVELS_TO_FLAG: Rule = Rule {
+    form: 4,
+    body: 0,
+    operands: 2,
+    first: 2,
+    rest: 2,
+    result: 0,
+};
+
+// From kind 10 (hexadecimal) on.
+const RULES: [Rule; 32] = [
+    // 10 to 1F
+    FLAG_CONSTANT,
+    WORD_CONSTANT,
+    LEVEL_CONSTANT,
+    NOW,
+    AT,
+    NO_NODE,
+    NO_NODE,
+    NO_NODE,
+    NO_NODE,
+    NO_NODE,
+    NO_NODE,
+    NO_NODE,
+    NO_NODE,
+    NO_NODE,
+    NO_NODE,
+    NO_NODE,
+    // 20 to 2F
+    NOT,
+    FLAGS_TO_FLAG,
+    FLAGS_TO_FLAG,
+    IF,
+    WORDS_TO_WORD,
+    WORDS_TO_WORD,
+    WORDS_TO_FLAG,
+    WORDS_TO_FLAG,
+    WORDS_TO_FLAG,
+    FLAGS_TO_FLAG,
+    LEVELS_TO_FLAG,
+    LEVELS_TO_LEVEL,
+    LEVELS_TO_LEVEL,
+    LEVELS_TO_LEVEL,
+    LEVELS_TO_LEVEL,
+    LEVELS_TO_FLAG,
+];
+
+// The rule of a kind byte.
+pub fn rule_of(kind: u8) -> Rule
+    ensures { λ r. ⌜ r ≡ ruleOf kind ⌝ }
+{
+    if kind < 16 {
+        NO_NODE
+    } else if 48 <= kind {
+        NO_NODE
+    } else {
+        let i = (kind - 16) as usize;
+        RULES[i]
+    }
+}
+
+// The type that a rule's entry means where `wanted` is asked.
+pub fn meant_type(t: u8, wanted: u8) -> u8
+    ensures { λ r. ⌜ r ≡ meant t wanted ⌝ }
+{
+    if t == 3 { wanted } else { t }
+}
+
+fn wide(x: u8) -> u32
+    ensures { λ r. ⌜ r ≡ x ⌝ }
+{
+    x as u32
+}
+
+fn size(x: u8) -> usize
+    ensures { λ r. ⌜ r ≡ x ⌝ }
+{
+    x as usize
+}
+
+// The word of four bytes, the lowest first.
+fn word(a: u8, b: u8, c: u8, d: u8) -> u32
+    ensures { λ r. ⌜ r ≡ a + b * 256 + c * 65536 + d * 16777216 ⌝ }
+{
+    a as u32 + b as u32 * 256 + c as u32 * 65536 + d as u32 * 16777216
+}
+
+// The four bytes from `at` on, the lowest first.
+pub fn word_at(table: &[u8], at: usize) -> u32
+    requires { ⌜ at + 4 ≤ length (now table) ⌝ }
+    ensures { λ r. ⌜ r ≡ wordAt (now (table .entry)) at ⌝ }
+{
+    word(table[at], table[at + 1], table[at + 2], table[at + 3])
+}
+
+// A byte read as a signed number.
+pub fn signed_of(b: u8) -> i8
+    ensures { λ r. ⌜ r ≡ signedOf b ⌝ }
+{
+    if b < 128 {
+        b as i8
+    } else {
+        -((255 - b) as i8) - 1
+    }
+}
+
+// An expression node.
+pub enum Node {
+    // its type and its word
+    Constant(u8, u32),
+    // the stream
+    Now(u8),
+    // the stream, the offset and the default
+    At(u8, i8, u32),
+    // the kind
+    Operator(u8),
+}
+
+// A node and the place behind its body, or the number of a fault.
+pub enum NodeRead {
+    Fault(u8),
+    Got(Node, usize),
+}
+
+// The node of the kind `kind` whose body starts at `at`.
+pub fn node_of(table: &[u8], kind: u8, at: usize) -> Node
+    requires { ⌜ at + (ruleOf kind .body) ≤ length (now table) ⌝ }
+    ensures { λ r. ⌜ r ≡ nodeOf (now (table .entry)) kind at ⌝ }
+{
+    if kind == 16 {
+        Node::Constant(0, wide(table[at]))
+    } else if kind == 17 {
+        Node::Constant(1, word_at(table, at))
+    } else if kind == 18 {
+        Node::Constant(2, word_at(table, at))
+    } else if kind == 19 {
+        Node::Now(table[at])
+    } else if kind == 20 {
+        Node::At(table[at], signed_of(table[at + 1]), word_at(table, at + 2))
+    } else {
+        Node::Operator(kind)
+    }
+}
+
+// The node at `at` and the place behind its body, or the number of the fault.
+pub fn node_at(table: &[u8], at: usize) -> NodeRead
+    ensures { λ r. ⌜ r ≡ nodeAt (now (table .entry)) at ⌝ }
+{
+    if table.len() <= at {
+        return NodeRead::Fault(2);
+    }
+    let kind = table[at];
+    let rule = rule_of(kind);
+    if rule.form == 0 {
+        return NodeRead::Fault(3);
+    }
+    let start = at + 1;
+    let body = size(rule.body);
+    if table.len() - start < body {
+        return NodeRead::Fault(2);
+    }
+    NodeRead::Got(node_of(table, kind, start), start + body)
+}
+
+fn type_fault(t: u8, wanted: u8) -> u8
+    ensures { λ r. ⌜ r ≡ typeFault t wanted ⌝ }
+{
+    if t == wanted { 0 } else { 5 }
+}
+
+fn word_fault(t: u8, word: u32) -> u8
+    ensures { λ r. ⌜ r ≡ wordFault t word ⌝ }
+{
+    if t == 0 {
+        if 1 < word { 4 } else { 0 }
+    } else {
+        0
+    }
+}
+
+fn zero_fault(k: i8) -> u8
+    ensures { λ r. ⌜ r ≡ zeroFault k ⌝ }
+{
+    if k == 0 { 4 } else { 0 }
+}
+
+// 0, or the number of the fault of a node where `wanted` is asked.
+pub fn fault_of(node: Node, types: &[u8; 32], streams: usize, wanted: u8) -> u8
+    requires { ⌜ (streams ≤ 32) × (length (now types) ≡ 32) ⌝ }
+    ensures { λ r. ⌜ r ≡ faultOf (take streams (now (types .entry))) wanted node ⌝ }
+{
+    match node {
+        Node::Constant(t, word) => {
+            let no = word_fault(t, word);
+            if no == 0 { type_fault(t, wanted) } else { no }
+        }
+        Node::Now(v) => {
+            let i = size(v);
+            if i < streams {
+                type_fault(types[i], wanted)
+            } else {
+                4
+            }
+        }
+        Node::At(v, k, word) => {
+            let i = size(v);
+            if streams <= i {
+                return 4;
+            }
+            let t = types[i];
+            let zero = zero_fault(k);
+            if zero == 0 {
+                let no = word_fault(t, word);
+                if no == 0 { type_fault(t, wanted) } else { no }
+            } else {
+                zero
+            }
+        }
+        Node::Operator(kind) => {
+            let rule = rule_of(kind);
+            type_fault(meant_type(rule.result, wanted), wanted)
+        }
+    }
+}
+
+// What a scan finds at a place: a fault, a constant or reference, an operator whose operands follow.
+pub enum Head {
+    Refused(u8),
+    Leaf(Node, usize),
+    Operator(u8, usize),
+}
+
+// What stands at `at` where a node of the type `wanted` is asked, with `levels` levels left.
+pub fn head_at(
+    table: &[u8],
+    types: &[u8; 32],
+    streams: usize,
+    wanted: u8,
+    at: usize,
+    levels: u8,
+) -> Head
+    requires { ⌜ (streams ≤ 32) × (length (now types) ≡ 32) ⌝ }
+    ensures { λ r. ⌜ r ≡ headAt levels (take streams (now (types .entry))) (now (table .entry)) wanted at ⌝ }
+{
+    match node_at(table, at) {
+        NodeRead::Fault(no) => Head::Refused(no),
+        NodeRead::Got(node, next) => {
+            if levels == 0 {
+                return Head::Refused(6);
+            }
+            let no = fault_of(node, types, streams, wanted);
+            if no == 0 {
+                match node {
+                    Node::Operator(kind) => Head::Operator(kind, next),
+                    _ => Head::Leaf(node, next),
+                }
+            } else {
+                Head::Refused(no)
+            }
+        }
+    }
+}

@@ -1,0 +1,7 @@
+pub mod Sizes
+pub mod Cells
+pub mod Rows
+pub mod Tested
+pub mod Weighed
+pub mod Slack
+pub mod Rise

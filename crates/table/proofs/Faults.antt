@@ -1,0 +1,163 @@
+-- The faults of the records that hold no expression: the first of two, their numbers, and what no fault tells.
+-- Assumes nothing.
+use mathlib.Core.Path.{_≡_, refl}
+use mathlib.Core.Bool.{Bool, true, false, cond}
+use mathlib.Core.List.{List}
+use Prim.Native.Nat.{ℕ, zero, suc, _+_, _≤_, _<_}
+use native.Mathlib.Omega.{arith}
+use borrow.Author.Tests.{eq-eqb, ne-eqb, lt-ltb, eqb-true, eqb-false, leb-true, ltb-false}
+use lib.Dec.{eqb, ltb, leb}
+use lib.ListN.{length, getD}
+use Rattle.basis.proofs.Tests.{pick-case}
+use Rattle.node.specs.Node.{first}
+use Rattle.table.specs.Records.{recordFault, typeRule, roleRule, headFault, inputFault, outputFault, equationFault, sideOf, streamFault, roleAt}
+
+-- ---- the first of two faults
+
+pub next-of : {a x b : ℕ} → a ≡ x → a ≡ 0 → b ≡ first x b
+unfolding first
+next-of e z = rw (← e, eq-eqb _ _ z)
+
+pub here-of : {a x : ℕ} (b : ℕ) → a ≡ x → (a ≡ 0 → ⊥) → a ≡ first x b
+unfolding first
+here-of b e z = rw (← e, ne-eqb _ _ z)
+
+-- neither of them
+neither : (a b : ℕ) → first a b ≡ 0 → (a ≡ 0) × (b ≡ 0)
+unfolding first
+neither a b = pick-case (λ (n : ℕ). n ≡ 0 → (a ≡ 0) × (b ≡ 0)) (eqb a 0) b a (λ p q. (eqb-true a 0 p, q)) (λ p q. absurd (eqb-false a 0 p q))
+
+-- ---- numbers: no fault has one above 6
+
+abbrev Low : ℕ → Type 0
+Low n = n ≤ 6
+
+first-low : {a b : ℕ} → Low a → Low b → Low (first a b)
+unfolding first
+first-low {a} {b} f g = pick-case Low (eqb a 0) b a (λ _. g) (λ _. f)
+
+either-low : (b : Bool) {x y : ℕ} → Low x → Low y → Low (cond b x y)
+either-low b f g = pick-case Low b _ _ (λ _. f) (λ _. g)
+
+record-low : (s : List ℕ) (at k b : ℕ) → Low (recordFault s at k b)
+unfolding recordFault
+record-low s at k b =
+    either-low (ltb at (length s)) (either-low (eqb (getD s at 0) k) (either-low (leb (at + 1 + b) (length s)) (omega arith) (omega arith)) (omega arith)) (omega arith)
+
+type-low : (t : ℕ) → Low (typeRule t)
+unfolding typeRule
+type-low t = either-low (ltb 2 t) (omega arith) (omega arith)
+
+role-low : (t r : ℕ) → Low (roleRule t r)
+unfolding roleRule
+role-low t r =
+    either-low (ltb 1 r) (omega arith) (either-low (eqb r 0) (omega arith) (either-low (eqb t 0) (omega arith) (omega arith)))
+
+pub head-low : (s : List ℕ) → headFault s ≤ 6
+unfolding headFault
+head-low s =
+    first-low (record-low s 0 1 3)
+    (either-low (eqb (getD s 1 0) 1)
+    (either-low (eqb (getD s 2 0) 0) (omega arith) (either-low (eqb (getD s 3 0) 0) (omega arith) (either-low (leb (getD s 2 0 + getD s 3 0) 32) (omega arith) (omega arith))))
+    (omega arith))
+
+pub stream-low : (side : ℕ) (s : List ℕ) (at : ℕ) → streamFault side s at ≤ 6
+unfolding streamFault inputFault outputFault
+stream-low side s at =
+    either-low (eqb side 0) (first-low (record-low s at 2 1) (type-low _)) (first-low (record-low s at 3 2) (first-low (type-low _) (role-low _ _)))
+
+pub equation-low : (s : List ℕ) (at y : ℕ) → equationFault s at y ≤ 6
+unfolding equationFault
+equation-low s at y = first-low (record-low s at 4 1) (either-low (eqb (getD s (at + 1) 0) y) (omega arith) (omega arith))
+
+-- ---- a record without a fault lies in the table
+
+pub record-room : (s : List ℕ) (at k b : ℕ) → recordFault s at k b ≡ 0 → at + 1 + b ≤ length s
+unfolding recordFault
+record-room s at k b =
+    pick-case Room (ltb at (length s)) _ 2
+    (λ _. pick-case Room (eqb (getD s at 0) k) _ 3 (λ _. pick-case Room (leb (at + 1 + b) (length s)) 0 2 (λ p _. leb-true _ _ p) (λ _ q. absurd (omega arith))) (λ _ q. absurd (omega arith)))
+    (λ _ q. absurd (omega arith))
+  where
+    Room : ℕ → Type 0
+    Room n = n ≡ 0 → at + 1 + b ≤ length s
+
+pub stream-room : (side : ℕ) (s : List ℕ) (at : ℕ) → side ≤ 1 → streamFault side s at ≡ 0 → at + 2 + side ≤ length s
+unfolding streamFault inputFault outputFault
+stream-room zero s at h e = omega (arith, record-room s at 2 1 (neither _ _ e .0))
+stream-room (suc zero) s at h e = omega (arith, record-room s at 3 2 (neither _ _ e .0))
+stream-room (suc (suc n)) s at h e = absurd (omega arith)
+
+pub equation-room : (s : List ℕ) (at y : ℕ) → equationFault s at y ≡ 0 → at + 2 ≤ length s
+unfolding equationFault
+equation-room s at y e = omega (arith, record-room s at 4 1 (neither _ _ e .0))
+
+pub head-room : (s : List ℕ) → headFault s ≡ 0 → 4 ≤ length s
+unfolding headFault
+head-room s e = record-room s 0 1 3 (neither _ _ e .0)
+
+-- ---- the fields of a record without a fault
+
+-- the record 01
+pub record HeadFits (s : List ℕ) : Type 0 where
+  pub first-edition : getD s 1 0 ≡ 1
+  pub some-input : 1 ≤ getD s 2 0
+  pub some-output : 1 ≤ getD s 3 0
+  pub few : getD s 2 0 + getD s 3 0 ≤ 32
+
+pub head-fits : (s : List ℕ) → headFault s ≡ 0 → HeadFits s
+unfolding headFault
+head-fits s e =
+    pick-case Fits (eqb (getD s 1 0) 1) _ 4
+    (λ a. pick-case Fits (eqb (getD s 2 0) 0) 4 _ (λ _ q. absurd (omega arith))
+    (λ b. pick-case Fits (eqb (getD s 3 0) 0) 4 _ (λ _ q. absurd (omega arith))
+    (λ c. pick-case Fits (leb (getD s 2 0 + getD s 3 0) 32) 0 4
+    (λ d _. record { first-edition = eqb-true _ _ a; some-input = some (eqb-false _ _ b); some-output = some (eqb-false _ _ c); few = leb-true _ _ d })
+    (λ _ q. absurd (omega arith)))))
+    (λ _ q. absurd (omega arith))
+    (neither _ _ e .1)
+  where
+    Fits : ℕ → Type 0
+    Fits n = n ≡ 0 → HeadFits s
+
+    some : {n : ℕ} → (n ≡ 0 → ⊥) → 1 ≤ n
+    some {n = zero} f = absurd (f refl)
+    some {n = suc n} f = omega arith
+
+-- a stream's type and role
+pub record StreamFits (t r : ℕ) : Type 0 where
+  pub type-is : t ≤ 2
+  pub role-is : r ≤ 1
+  pub trigger-is-flag : r ≡ 1 → t ≡ 0
+
+type-fits : (t : ℕ) → typeRule t ≡ 0 → t ≤ 2
+unfolding typeRule
+type-fits t = pick-case (λ (n : ℕ). n ≡ 0 → t ≤ 2) (ltb 2 t) 4 0 (λ _ q. absurd (omega arith)) (λ p _. ltb-false 2 t p)
+
+role-fits : (t r : ℕ) → roleRule t r ≡ 0 → (r ≤ 1) × (r ≡ 1 → t ≡ 0)
+unfolding roleRule
+role-fits t r =
+    pick-case Fits (ltb 1 r) 4 _ (λ _ q. absurd (omega arith))
+    (λ p. pick-case Fits (eqb r 0) 0 _ (λ e _. let z = eqb-true r 0 e in (ltb-false 1 r p, λ o. absurd (omega arith)))
+    (λ _. pick-case Fits (eqb t 0) 0 4 (λ e _. (ltb-false 1 r p, λ _. eqb-true t 0 e)) (λ _ q. absurd (omega arith))))
+  where
+    Fits : ℕ → Type 0
+    Fits n = n ≡ 0 → (r ≤ 1) × (r ≡ 1 → t ≡ 0)
+
+fits-by : (input : Bool) (s : List ℕ) (at : ℕ) → cond input (inputFault s at) (outputFault s at) ≡ 0 → StreamFits (getD s (at + 1) 0) (cond input 0 (getD s (at + 2) 0))
+unfolding inputFault outputFault
+fits-by true s at e =
+    record { type-is = type-fits _ (neither _ _ e .1); role-is = omega arith; trigger-is-flag = λ q. absurd (omega arith) }
+fits-by false s at e =
+    let f = neither _ _ (neither _ _ e .1) in
+    let r = role-fits _ _ (f .1) in
+    record { type-is = type-fits _ (f .0); role-is = r .0; trigger-is-flag = r .1 }
+
+pub stream-fits : (side : ℕ) (s : List ℕ) (at : ℕ) → streamFault side s at ≡ 0 → StreamFits (getD s (at + 1) 0) (roleAt side s at)
+unfolding streamFault roleAt
+stream-fits side s at e = fits-by (eqb side 0) s at e
+
+-- an input has the role 0
+pub input-role : (i v : ℕ) (s : List ℕ) (at : ℕ) → v < i → roleAt (sideOf i v) s at ≡ 0
+unfolding sideOf roleAt
+input-role i v s at h = rw (lt-ltb v i h)

@@ -1,0 +1,9 @@
+pub mod Arrays
+pub mod Faults
+pub mod Streams
+pub mod Equations
+pub mod Decoding
+pub mod Sound
+pub mod TableA
+pub mod Entries
+pub mod Edges

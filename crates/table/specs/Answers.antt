@@ -1,0 +1,67 @@
+-- What the scan's functions answer, each of their cases in document 01's numbers and places.
+-- Assumes nothing.
+use Prim.Native.Nat.{ℕ, _-_}
+use mathlib.Core.List.{List, [], _∷_, _++_}
+use lib.ListN.{length, getD, replicate}
+use Rattle.table.specs.declared.Heading.{Heading}
+use Rattle.table.specs.declared.Solved.{Solved}
+use Rattle.table.specs.declared.Scan.{Scan}
+use Rattle.table.specs.declared.Outcome.{Outcome}
+use Rattle.table.specs.declared.Outcome.the-variants.{Accepted, Refused}
+use Rattle.table.specs.Records.{Declared, declares, wrong, heads}
+use Rattle.table.specs.Table.{Equation, Decoded, decoded, refused, Equations, equated, unfit}
+
+-- a list as an array of 32 entries, 0 past its end
+abbrev pub padded : List ℕ → List ℕ
+padded l = l ++ replicate (32 - length l) 0
+
+-- the number and the place of an outcome: "An accepted call answers number 0 and place 0."
+unfoldable pub numberOf : Outcome → ℕ
+numberOf Accepted = 0
+numberOf (Refused why place) = why
+
+unfoldable pub placeOf : Outcome → ℕ
+placeOf Accepted = 0
+placeOf (Refused why place) = place
+
+-- the streams' records with i inputs: number 0 and the place of the first equation; of a fault its number and place, and zeros
+unfoldable pub headedOf : ℕ → Declared → Heading
+headedOf i (declares ts rs n) =
+    record { number = 0; place = n; inputs = i; streams = length ts; types = padded ts; roles = padded rs }
+headedOf i (wrong why place) =
+    record { number = why; place = place; inputs = 0; streams = 0; types = replicate 32 0; roles = replicate 32 0 }
+
+unfoldable pub headingOf : List ℕ → Heading
+headingOf s = headedOf (getD s 2 0) (heads s)
+
+-- where the expressions of some equations start, in the order of the equations
+unfoldable pub startsOf : List Equation → List ℕ
+startsOf [] = []
+startsOf (q ∷ qs) = q .start ∷ startsOf qs
+
+-- equations behind streams that start where l says: number 0, the place behind them and their starts; of a fault its number and place
+unfoldable pub solvedOf : List ℕ → Equations → Solved
+solvedOf l (equated qs n) = record { number = 0; place = n; starts = padded (l ++ startsOf qs) }
+solvedOf l (unfit why place) = record { number = why; place = place; starts = replicate 32 0 }
+
+-- the whole table: its inputs, its streams with their types and roles, and where each output's expression starts (an input's start is 0);
+-- of a refusal its number and place, and zeros
+unfoldable pub scanOf : Decoded → Scan
+scanOf (decoded t) =
+    record {
+      outcome = Accepted;
+      inputs = t .inputs;
+      streams = length (t .types);
+      types = padded (t .types);
+      roles = padded (t .roles);
+      starts = padded (replicate (t .inputs) 0 ++ startsOf (t .equations));
+    }
+scanOf (refused why place) =
+    record {
+      outcome = Refused why place;
+      inputs = 0;
+      streams = 0;
+      types = replicate 32 0;
+      roles = replicate 32 0;
+      starts = replicate 32 0;
+    }

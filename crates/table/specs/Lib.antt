@@ -1,0 +1,5 @@
+pub mod Records
+pub mod Table
+pub mod Answers
+pub mod Sound
+pub mod TableA

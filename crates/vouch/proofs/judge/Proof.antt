@@ -1,0 +1,81 @@
+-- `judge`: the pass over the equations up to that of y.
+-- Assumes nothing.
+use Prim.Native.Nat.{_-_, _≤_}
+use native.Mathlib.Omega.{arith}
+use borrow.Author.Needs.{needs}
+use lib.ListN.{take, getD-replicate}
+use Rattle.table.proofs.Arrays.{zeros-at-first, zeros-front}
+use Rattle.certificate.specs.Certificate.{of}
+use Rattle.certificate.proofs.Tally.{none-noted}
+use Rattle.vouch.proofs.Equation.{equation-starts}
+use Rattle.vouch.proofs.Pass.{Passed, pass-start, pass-on, pass-refused, pass-other, pass-settled}
+use Rattle.vouch.proofs.judge.Statement.{statement}
+use Rattle.vouch.proofs.judge.Tie as tie
+
+abbrev Inv-loop : tie.InvT-loop
+Inv-loop table types inputs streams at look kept tight₀ most₀ starts₀ y₀ next₀ tight most starts y next =
+    (y ≤ streams) × Passed inputs streams (take streams types) table at (of look) y next starts tight most
+
+abbrev μ-loop : tie.MeasureT-loop
+μ-loop table types inputs streams at look kept tight₀ most₀ starts₀ y₀ next₀ tight most starts y next = streams - y
+
+loop-holds : tie.Need-loop-holds Inv-loop μ-loop
+loop-holds c = (c .before .pre .0, pass-start _ _ _ _ _ _ (none-noted _ _ _ (search needs) (search needs) (λ y h. getD-replicate 32 y 0 0 h) (λ y h. getD-replicate 32 y 0 0 h)) (search needs) (zeros-at-first _) (zeros-front (c .before .args .inputs) 32 (omega (arith, c .before .pre .0, c .before .pre .1))))
+
+returns : tie.Need-returns Inv-loop μ-loop
+returns c = pass-refused _ _ _ _ _ _ (c .before .before .before .before .before .before .loop .inv .1) (c .before .before .before .before .before .loop-test .taken) (rw (c .enum-told .given .1) at (c .before .before .note-equation .ensures)) _ _
+
+add-starts : tie.Need-add-starts Inv-loop μ-loop
+add-starts c = omega (arith, c .before .before .before .before .before .before .before .before .before .pre .3, equation-starts _ _ _ _ ((rw (c .before .end .given .1) at (c .before .before .before .note-equation .ensures)) .1))
+
+cast-starts : tie.Need-cast-starts Inv-loop μ-loop
+cast-starts c = omega (arith, c .before .before .before .before .before .before .before .before .before .pre .3, equation-starts _ _ _ _ ((rw (c .before .end .given .1) at (c .before .before .before .note-equation .ensures)) .1))
+
+loop-again : tie.Need-loop-again Inv-loop μ-loop
+loop-again c = (omega (arith, c .before .before .before .before .before .before .loop-test .taken), pass-on _ _ _ _ _ _ (c .before .before .before .before .before .before .before .loop .inv .1) (c .before .before .before .before .before .before .loop-test .taken) (omega (arith, c .before .before .before .before .before .before .loop-test .taken, c .before .before .before .before .before .before .before .before .before .pre .1)) ((rw (c .before .end .given .1) at (c .before .before .before .note-equation .ensures)) .1) ((rw (c .before .end .given .1) at (c .before .before .before .note-equation .ensures)) .2))
+
+note-equation-requires : tie.Need-note-equation-requires Inv-loop μ-loop
+note-equation-requires c κs = omega (arith, c .before .before .loop-test .taken, c .before .before .before .before .before .pre .1, c .before .before .before .before .before .pre .2)
+
+mul-starts : tie.Need-mul-starts Inv-loop μ-loop
+mul-starts c = omega (arith, c .before .before .before .before .before .before .loop-test .taken, c .before .before .before .before .before .before .before .before .before .pre .1)
+
+array-write-starts : tie.Need-array-write-starts Inv-loop μ-loop
+array-write-starts c = omega (arith, c .before .before .before .before .before .before .loop-test .taken, c .before .before .before .before .before .before .before .before .before .pre .1, c .before .before .before .before .before .before .before .loop .inv .1 .long)
+
+add-y : tie.Need-add-y Inv-loop μ-loop
+add-y c = omega (arith, c .before .before .before .before .before .before .loop-test .taken, c .before .before .before .before .before .before .before .before .before .pre .1)
+
+loop-less : tie.Need-loop-less Inv-loop μ-loop
+loop-less c = omega (arith, c .before .before .before .before .before .before .loop-test .taken)
+
+settle-requires : tie.Need-settle-requires Inv-loop μ-loop
+settle-requires c κs = c .before .before .before .before .before .before .pre .1
+
+returns-2 : tie.Need-returns-2 Inv-loop μ-loop
+returns-2 c = pass-settled _ _ _ _ _ _ (c .before .before .before .before .before .before .loop .inv .1) (c .before .before .before .before .before .loop-test .left) (of (c .before .before .before .before .before .before .before .before .args .kept .now)) (omega (arith, c .before .before .before .before .before .before .loop .inv .0, c .before .before .before .before .before .before .before .before .pre .1)) (c .before .before .before .before .if1 .taken) (c .before .settle .result .ok) (c .before .settle .result .order) (c .before .settle .ensures)
+
+returns-3 : tie.Need-returns-3 Inv-loop μ-loop
+returns-3 c = λ qs e ends r. pass-other _ _ _ _ _ _ (c .before .before .loop .inv .1) (c .before .loop-test .left) (c .if1 .left) qs e
+
+pub judge-spec : {M : Type 1} → statement M
+judge-spec =
+    tie.close
+    (tie.spec
+    Inv-loop
+    μ-loop
+    loop-holds
+    note-equation-requires
+    (λ c. search needs)
+    returns
+    (λ c. search needs)
+    add-starts
+    cast-starts
+    mul-starts
+    array-write-starts
+    add-y
+    loop-less
+    loop-again
+    settle-requires
+    returns-2
+    returns-3)

@@ -1,0 +1,208 @@
+// A record's numbers vouched for against the table's bytes in one pass over them, without the square of longest walks (document 01, "Every call
+// tests the table first", refusal 10). It assumes nothing.
+ghost use mathlib.Core.Path.{_≡_};
+ghost use mathlib.Core.Bool.{false};
+ghost use Prim.Native.Nat.{_+_, _-_, _<_, _≤_};
+ghost use lib.ListN.{length, take};
+ghost use Rattle.basis.specs.Sums.{total};
+ghost use Rattle.table.specs.Table.{equationAt, equationsAt};
+ghost use Rattle.certificate.specs.Certificate.{of};
+ghost use Rattle.vouch.specs.Vouching.{ZeroPast, Bounded, Verdict};
+ghost use Rattle.vouch.specs.Steps.{Decides, NotedEquation, Judgement};
+use expression::Scanned;
+
+// Whether the numbers from the stream `s` on are 0.
+fn zero_past(numbers: &[u16; 32], s: usize) -> bool
+    ensures { λ r. ⌜ Decides r (ZeroPast (now (numbers .entry)) s) ⌝ }
+{
+    let mut v = s;
+    while v < 32 {
+        if numbers[v] != 0 {
+            return false;
+        }
+        v += 1;
+    }
+    true
+}
+
+// The sum of the numbers below the stream `s`.
+fn sum(numbers: &[u16; 32], s: usize) -> u32
+    requires { ⌜ s ≤ 32 ⌝ }
+    ensures { λ r. ⌜ r ≡ total (of (now (numbers .entry))) s ⌝ }
+{
+    let mut words = 0;
+    let mut v = 0;
+    while v < s {
+        words += certificate::wide(numbers[v]);
+        v += 1;
+    }
+    words
+}
+
+// Whether the numbers are 0 past the last stream and ask no more than 4,096 store words.
+fn within_bounds(look: &[u16; 32], kept: &[u16; 32], s: usize) -> bool
+    requires { ⌜ s ≤ 32 ⌝ }
+    ensures { λ r. ⌜ Decides r (Bounded (now (look .entry)) (now (kept .entry)) s) ⌝ }
+{
+    if zero_past(look, s) {
+        if zero_past(kept, s) {
+            return sum(kept, s) <= 4096;
+        }
+    }
+    false
+}
+
+// An equation whose edges were noted ends here; or it is refused, for a fault or for an edge without slack.
+pub enum Noted {
+    Ends(usize),
+    Refused,
+}
+
+// Notes the edges of the equation of `y`, whose record is at `at`.
+fn note_equation(
+    table: &[u8],
+    types: &[u8; 32],
+    streams: usize,
+    y: usize,
+    at: usize,
+    look: &[u16; 32],
+    tight: &mut [u32; 32],
+    most: &mut [u32; 32],
+) -> Noted
+    requires { ⌜ (y < streams) × (streams ≤ 32) × (length (now types) ≡ 32) ⌝ }
+    ensures { λ r. ⌜ NotedEquation r (equationAt (take streams (now (types .entry))) (now (table .entry)) y at) y (of (now (look .entry))) (now (tight .entry)) (now (most .entry)) (now (tight .exit)) (now (most .exit)) ⌝ }
+{
+    let mut rise = [0u16; 32];
+    let mut fall = [0u16; 32];
+    match table::scan_equation(table, types, streams, y, at, &mut rise, &mut fall) {
+        Scanned::Refused(_, _) => Noted::Refused,
+        Scanned::Ends(end) => {
+            if certificate::note_row(tight, most, look, &rise, &fall, y, streams) {
+                Noted::Ends(end)
+            } else {
+                Noted::Refused
+            }
+        }
+    }
+}
+
+// The verdict on the numbers over the equations; where their expressions start, and the order within a turn.
+pub struct Judged {
+    pub ok: bool,
+    pub starts: [u16; 32],
+    pub order: [u8; 32],
+}
+
+// The equations of the streams inputs..streams, the first of them at `at` and the last at the table's end.
+fn judge(
+    table: &[u8],
+    types: &[u8; 32],
+    inputs: usize,
+    streams: usize,
+    at: usize,
+    look: &[u16; 32],
+    kept: &[u16; 32],
+) -> Judged
+    requires { ⌜ (inputs ≤ streams) × (streams ≤ 32) × (length (now types) ≡ 32) × (length (now table) ≤ 4096) ⌝ }
+    ensures { λ r. ⌜ Judgement (r .ok) (equationsAt (streams - inputs) inputs (take streams (now (types .entry))) (now (table .entry)) at) (length (now (table .entry))) inputs streams (of (now (look .entry))) (of (now (kept .entry))) (r .starts) (r .order) ⌝ }
+{
+    let mut tight = [0u32; 32];
+    let mut most = [0u32; 32];
+    let mut starts = [0u16; 32];
+    let mut y = inputs;
+    let mut next = at;
+    while y < streams {
+        match note_equation(table, types, streams, y, next, look, &mut tight, &mut most) {
+            Noted::Refused => {
+                return Judged {
+                    ok: false,
+                    starts: [0u16; 32],
+                    order: [0u8; 32],
+                };
+            }
+            Noted::Ends(end) => {
+                starts[y] = (next + 2) as u16;
+                next = end;
+                y += 1;
+            }
+        }
+    }
+    if next == table.len() {
+        let settled = certificate::settle(&tight, &most, look, kept, streams);
+        let order = settled.order;
+        Judged {
+            ok: settled.ok,
+            starts: starts,
+            order: order,
+        }
+    } else {
+        Judged {
+            ok: false,
+            starts: [0u16; 32],
+            order: [0u8; 32],
+        }
+    }
+}
+
+// Whether the record's numbers are vouched for, and what a call needs of the table: its streams and the order within a turn.
+pub struct Vouched {
+    pub ok: bool,
+    pub inputs: usize,
+    pub streams: usize,
+    pub types: [u8; 32],
+    pub roles: [u8; 32],
+    pub starts: [u16; 32],
+    pub order: [u8; 32],
+}
+
+fn unvouched() -> Vouched
+    ensures { λ r. ⌜ r .ok ≡ false ⌝ }
+{
+    Vouched {
+        ok: false,
+        inputs: 0,
+        streams: 0,
+        types: [0u8; 32],
+        roles: [0u8; 32],
+        starts: [0u16; 32],
+        order: [0u8; 32],
+    }
+}
+
+// Whether the bytes are those of a table and the numbers those of a record of this table.
+pub fn vouch(table: &[u8], look: &[u16; 32], kept: &[u16; 32]) -> Vouched
+    ensures { λ r. ⌜ Verdict (r .ok) (now (table .entry)) (now (look .entry)) (now (kept .entry)) r ⌝ }
+{
+    let heading = table::scan_heading(table);
+    if heading.number != 0 {
+        return unvouched();
+    }
+    if !within_bounds(look, kept, heading.streams) {
+        return unvouched();
+    }
+    let types = heading.types;
+    let judged = judge(
+        table,
+        &types,
+        heading.inputs,
+        heading.streams,
+        heading.place,
+        look,
+        kept,
+    );
+    if !judged.ok {
+        return unvouched();
+    }
+    let roles = heading.roles;
+    let starts = judged.starts;
+    let order = judged.order;
+    Vouched {
+        ok: true,
+        inputs: heading.inputs,
+        streams: heading.streams,
+        types: types,
+        roles: roles,
+        starts: starts,
+        order: order,
+    }
+}

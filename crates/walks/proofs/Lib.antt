@@ -1,0 +1,16 @@
+pub mod Best
+pub mod Through
+pub mod Loops
+pub mod LookAhead
+pub mod Distinct
+pub mod Short
+pub mod Place
+pub mod Squares
+pub mod Announced
+pub mod Kept
+pub mod Unique
+pub mod Rank
+pub mod Schedule
+pub mod Bound
+pub mod Same
+pub mod Notes
