@@ -126,7 +126,7 @@ fn row_of(all: &[u16; 1024], y: usize) -> [u16; 32]
 }
 
 // The sum of the first `s` numbers.
-fn sum(numbers: &[u16; 32], s: usize) -> usize
+pub fn sum(numbers: &[u16; 32], s: usize) -> usize
     requires { ⌜ s ≤ 32 ⌝ }
     ensures { λ r. ⌜ r ≡ total (λ v. getD (now (numbers .entry)) v 0) s ⌝ }
 {
@@ -140,7 +140,7 @@ fn sum(numbers: &[u16; 32], s: usize) -> usize
 }
 
 // The largest of the first `s` numbers.
-fn largest(numbers: &[u16; 32], s: usize) -> u16
+pub fn largest(numbers: &[u16; 32], s: usize) -> u16
     requires { ⌜ s ≤ 32 ⌝ }
     ensures { λ r. ⌜ r ≡ most (λ v. getD (now (numbers .entry)) v 0) s ⌝ }
 {
@@ -162,7 +162,7 @@ fn role_size(x: u8) -> usize
 }
 
 // How many of the first `s` streams are triggers.
-fn triggers(roles: &[u8; 32], s: usize) -> usize
+pub fn triggers(roles: &[u8; 32], s: usize) -> usize
     requires { ⌜ s ≤ 32 ⌝ }
     ensures { λ r. ⌜ r ≡ total (λ v. getD (now (roles .entry)) v 0) s ⌝ }
 {

@@ -1,10 +1,11 @@
--- How long the texts are: a byte's, a word's and a long number's digits, and the lines of the records.
--- Assumes nothing.
-use mathlib.Core.Path.{_≡_, refl}
-use mathlib.Core.List.{_∷_, _++_}
+-- How long the texts are: a byte's, a word's and a long number's digits, and the lines of the records; and that what was written lies
+-- within its slice. Assumes nothing.
+use mathlib.Core.Path.{_≡_, refl, ap}
+use mathlib.Core.List.{List, _∷_, _++_}
 use Prim.Native.Nat.{ℕ, _+_, _^_, _<_, _≤_}
 use native.Mathlib.Omega.{arith}
-use lib.ListN.{length, length-append}
+use lib.ListN.{length, take, length-append, length-take}
+use Rattle.basis.specs.Written.{Wrote}
 use Rattle.lines.specs.Lines.{decimal, spaced, hex8, lineEnd, valueLine, triggerLine}
 use Rattle.lines.proofs.Decimals.{digits-at-most}
 
@@ -41,3 +42,8 @@ pub trigger-line-length : (stream position : ℕ) → stream < 256 → position 
 unfolding triggerLine
 trigger-line-length stream position h k =
     omega (arith, byte-and-word stream position h k, length-append (spaced stream ++ spaced position) lineEnd)
+
+-- the text lies within the slice
+pub wrote-within : {a s b : List ℕ} {p q : ℕ} → p ≤ length a → Wrote a p s b q → q ≤ length b
+wrote-within {a} {s} {b} {p} {q} h w =
+    omega (arith, w .ends, ap length (w .front), length-append (take p a) s, length-take p a, length-take q b)

@@ -65,7 +65,8 @@ fn record_size(records: &[u8], i: usize) -> usize
     if left < 10 { 0 } else { 10 }
 }
 
-fn word_at(records: &[u8], i: usize) -> u32
+// The number in the four bytes from i on.
+pub fn word_at(records: &[u8], i: usize) -> u32
     requires { ⌜ i + 4 ≤ length (now records) ⌝ }
     ensures { λ r. ⌜ r ≡ wordAt (now (records .entry)) i ⌝ }
 {

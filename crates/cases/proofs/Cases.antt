@@ -1,0 +1,139 @@
+-- Document 01's cases hold of the definitions: one theorem over the one list.
+-- Assumes nothing.
+use Prim.Native.Nat.{ℕ}
+use native.Mathlib.Omega.{arith}
+use mathlib.Core.Path.{_≡_, refl, sym, _∙_, subst}
+use mathlib.Core.List.{List, [], _∷_}
+use lib.IntN.{pos, negsuc}
+use lib.Ieee as Ieee
+use Rattle.basis.specs.Sums.{total, most}
+use Rattle.value.specs.declared.Value.{Value}
+use Rattle.value.specs.declared.Value.the-variants.{Word}
+use Rattle.value.specs.Values.{opOf}
+use Rattle.node.specs.Kinds.{ruleOf, rows, look, meant}
+use Rattle.node.specs.Node.{wordAt, signedOf, nodeOf, nodeBy, nodeAt, typeFault, wordFault, zeroFault, first, faultOf, headOf, headBy, headAt}
+use Rattle.node.specs.declared.Node.the-variants.{Now, At}
+use Rattle.expression.specs.Syntax.{leaf, binary}
+use Rattle.expression.specs.Grammar.{operands, step, parse}
+use Rattle.expression.specs.References.{nodeReferences, references}
+use Rattle.table.specs.Records.{recordFault, typeRule, roleRule, headFault, inputFault, outputFault, equationFault, sideOf, streamFault, roleAt, declared, heads}
+use Rattle.table.specs.Table.{Table, decoded, equationAt, equationsAt, tableOf, decode, edgesFrom, edges}
+use Rattle.table.specs.TableA.{tableA}
+use Rattle.walks.specs.Longest.{only, squareOf, through, allBelow, loopsBelow, lookTo, lookOf, supTo, back, shortLoop, lowest, placeOf, slackOf, keptOf}
+use Rattle.square.specs.Square.{firsts}
+use Rattle.announce.specs.Announced.{lookAhead, keptValues, storeWords, roomBytes, closingTurns, weighTable, announced}
+use Rattle.table.proofs.TableA.{table-a-decodes}
+use Rattle.lola.specs.Models.{value, refer}
+use Rattle.meaning.specs.Expressions.{meaning}
+use Rattle.meaning.specs.Tables.{TableModel}
+use Rattle.cases.specs.Cases.{wordsFrom, AllHold, rowsP2, rowP4, cases}
+
+-- "Stream 1 is now(0) - at(0,-1,0); trigger 2 is ahead(now(0), at(0,1,7))."
+abbrev tableOfA : Table
+tableOfA =
+    record {
+      edition = 1;
+      inputs = 1;
+      types = 1 ∷ 1 ∷ 0 ∷ [];
+      roles = 0 ∷ 0 ∷ 1 ∷ [];
+      equations =
+          record { start = 14; expr = binary 0x25 (leaf (Now 0)) (leaf (At 0 (negsuc 0) 0)) }
+          ∷ record { start = 26; expr = binary 0x26 (leaf (Now 0)) (leaf (At 0 (pos 1) 7)) }
+          ∷ [];
+    }
+
+-- table A's model, for a list of rows: streams 1 and 2 read stream 0 only, and that is given
+module _ (rows : List (List ℕ)) (t : Table) (e : decode tableA ≡ decoded t) (σ : ℕ → ℕ → Value) (m : TableModel t rows σ) where
+  same : t ≡ tableOfA
+  same = let q : decoded t ≡ decoded tableOfA = sym e ∙ table-a-decodes in cc
+
+  pub model-A : TableModel tableOfA rows σ
+  model-A = subst (λ (u : Table). TableModel u rows σ) same m
+
+-- P2 and P3
+module _ (σ : ℕ → ℕ → Value) (m : TableModel tableOfA rowsP2 σ) where
+  row0 : σ 0 0 ≡ Word 4294967290
+  row0 = m .given 0 0 (omega arith) (omega arith)
+
+  row1 : σ 0 1 ≡ Word 4
+  row1 = m .given 0 1 (omega arith) (omega arith)
+
+  row2 : σ 0 2 ≡ Word 3
+  row2 = m .given 0 2 (omega arith) (omega arith)
+
+  stream1 : wordsFrom σ 1 3 0 ≡ 4294967290 ∷ 10 ∷ 4294967295 ∷ []
+  unfolding wordsFrom meaning value refer opOf
+  stream1 =
+      rw (m .holds 1 0 (omega arith) (omega arith) (omega arith), m .holds 1 1 (omega arith) (omega arith) (omega arith), m .holds 1 2 (omega arith) (omega arith) (omega arith))
+      (rw (row0, row1, row2))
+
+  stream2 : wordsFrom σ 2 3 0 ≡ 0 ∷ 1 ∷ 0 ∷ []
+  unfolding wordsFrom meaning value refer opOf
+  stream2 =
+      rw (m .holds 2 0 (omega arith) (omega arith) (omega arith), m .holds 2 1 (omega arith) (omega arith) (omega arith), m .holds 2 2 (omega arith) (omega arith) (omega arith))
+      (rw (row0, row1, row2))
+
+-- P4
+module _ (σ : ℕ → ℕ → Value) (m : TableModel tableOfA rowP4 σ) where
+  row : σ 0 0 ≡ Word 5
+  row = m .given 0 0 (omega arith) (omega arith)
+
+  stream1-P4 : wordsFrom σ 1 1 0 ≡ 5 ∷ []
+  unfolding wordsFrom meaning value refer opOf
+  stream1-P4 = rw (m .holds 1 0 (omega arith) (omega arith) (omega arith)) (rw row)
+
+  stream2-P4 : wordsFrom σ 2 1 0 ≡ 0 ∷ []
+  unfolding wordsFrom meaning value refer opOf
+  stream2-P4 = rw (m .holds 2 0 (omega arith) (omega arith) (omega arith)) (rw row)
+
+pub cases-hold : AllHold cases
+unfolding tableA ruleOf rows look meant wordAt signedOf nodeOf nodeBy nodeAt typeFault wordFault zeroFault first faultOf headOf headBy headAt operands step parse nodeReferences references recordFault typeRule roleRule headFault inputFault outputFault equationFault sideOf streamFault roleAt declared heads equationAt equationsAt tableOf decode edgesFrom edges only squareOf through allBelow loopsBelow lookTo lookOf supTo back shortLoop lowest placeOf slackOf keptOf firsts total most lookAhead keptValues storeWords roomBytes closingTurns weighTable announced opOf Ieee.ofBits Ieee.div Ieee.toBits
+cases-hold = (
+  refl,
+  (
+    (λ t e σ m. stream1 σ (model-A rowsP2 t e σ m)),
+    (
+      (λ t e σ m. stream2 σ (model-A rowsP2 t e σ m)),
+      (
+        (λ t e σ m. stream1-P4 σ (model-A rowP4 t e σ m)),
+        (
+          (λ t e σ m. stream2-P4 σ (model-A rowP4 t e σ m)),
+          (
+            refl,
+            (
+              refl,
+              (
+                refl,
+                (
+                  refl,
+                  (
+                    refl,
+                    (
+                      refl,
+                      (
+                        refl,
+                        (
+                          refl,
+                          (
+                            refl,
+                            (
+                              refl,
+                              (
+                                refl,
+                                tt,
+                              ),
+                            ),
+                          ),
+                        ),
+                      ),
+                    ),
+                  ),
+                ),
+              ),
+            ),
+          ),
+        ),
+      ),
+    ),
+  ),
+)

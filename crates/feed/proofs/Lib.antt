@@ -1,0 +1,5 @@
+pub mod Heads
+pub mod Words
+pub mod Answers
+pub mod Turns
+pub mod Inputs

@@ -1,0 +1,65 @@
+-- What the program prints of its rows and its closing turns (document 01, "The program"): the answers of the calls, one after another.
+-- Assumes nothing.
+use Prim.Native.Nat.{ℕ, zero, suc, _*_, _≤_, _<_}
+use mathlib.Core.Path.{_≡_}
+use mathlib.Core.Bool.{cond}
+use mathlib.Core.List.{List, [], _++_}
+use lib.Dec.{eqb}
+use lib.ListN.{length, take, replicate}
+use Rattle.basis.specs.Written.{Wrote}
+use Rattle.lines.specs.Lines.{linesOf, refusalLine}
+use Rattle.monitor.specs.declared.Run.{Run}
+use Rattle.monitor.specs.Calls.{After, rowCall, drainCall}
+use Rattle.feed.specs.Head.{wordsAt}
+
+-- the output lent to a turn: "10 bytes for each output and 6 for each trigger", of which there are at most 31
+abbrev pub lent : List ℕ
+lent = replicate 496 0
+
+-- a line for each record that the call gave, or "A refused row is reported"
+unfoldable pub answerText : (number place : ℕ) (records : List ℕ) → List ℕ
+answerText number place records = cond (eqb number 0) (linesOf records) (refusalLine number place)
+
+abbrev pub printed : After → List ℕ
+printed a = answerText (a .answer .number) (a .answer .place) (take (a .answer .count) (a .output))
+
+-- how far a run has come: its record, its store, and what was printed on the way
+pub record State : Type 0 where
+  pub run : Run
+  pub store : List ℕ
+  pub text : List ℕ
+
+abbrev pub begun : Run → List ℕ → State
+begun r st = record { run = r; store = st; text = [] }
+
+abbrev pub onward : After → List ℕ → State
+onward a text = record { run = a .answer .run; store = a .store; text = text ++ printed a }
+
+-- one row of the table s
+abbrev pub afterRow : (s ws : List ℕ) → State → State
+afterRow s ws x = onward (rowCall s (x .run) ws (x .store) lent) (x .text)
+
+-- the first n rows of the input, "rows of I words with no framing"
+unfoldable pub afterRows : (s input : List ℕ) (inputs n : ℕ) → State → State
+afterRows s input inputs zero x = x
+afterRows s input inputs (suc n) x = afterRow s (wordsAt input (n * (4 * inputs)) inputs) (afterRows s input inputs n x)
+
+-- one closing turn
+abbrev pub afterDrain : (s : List ℕ) → State → State
+afterDrain s x = onward (drainCall s (x .run) (x .store) lent) (x .text)
+
+unfoldable pub afterDrains : (s : List ℕ) (n : ℕ) → State → State
+afterDrains s zero x = x
+afterDrains s (suc n) x = afterDrain s (afterDrains s n x)
+
+-- the code has come so far: its record, its store, and the text from `at` up to `end`
+pub record Reached (x : State) (r : Run) (st before : List ℕ) (at : ℕ) (after : List ℕ) (end : ℕ) : Type 0 where
+  pub run-is : r ≡ x .run
+  pub store-is : st ≡ x .store
+  pub wrote : Wrote before at (x .text) after end
+
+-- the rows taken from the input's front are whole, and there is one at least where the input has one
+pub record Taken (input : List ℕ) (inputs rows used : ℕ) : Type 0 where
+  pub used-is : used ≡ rows * (4 * inputs)
+  pub whole : used ≤ length input
+  pub some : used ≡ 0 → length input < 4 * inputs

@@ -1,0 +1,176 @@
+// What turns the program's input into its lines, on lent slices (document 01, "The program"). Reads and writes are the program's.
+use monitor::Phase;
+use monitor::Run;
+
+ghost use mathlib.Core.Path.{_≡_};
+ghost use mathlib.Core.Logic.{_⊎_};
+ghost use mathlib.Core.List.{[], _++_};
+ghost use Prim.Native.Nat.{_+_, _*_, _≤_, _<_};
+ghost use lib.ListN.{length, take, getD};
+ghost use Rattle.basis.specs.Written.{Wrote};
+ghost use Rattle.lines.specs.Lines.{linesOf, refusalLine};
+ghost use Rattle.monitor.specs.Calls.{openCall};
+ghost use Rattle.feed.specs.Head.{headOf, wordsAt};
+ghost use Rattle.feed.specs.Rows.{answerText, begun, afterRow, afterRows, afterDrain, afterDrains, Reached, Taken};
+
+// What the bytes of the head say: the input stops in them, a refusal with place 0, or the table's length.
+pub enum Head {
+    Stopped,
+    Refused(u8),
+    Table(usize),
+}
+
+// A run after a turn, and where its text ends.
+struct Turned {
+    run: Run,
+    at: usize,
+}
+
+// A run after some rows, the bytes that they took, and where their text ends.
+pub struct Fed {
+    pub run: Run,
+    pub rows: usize,
+    pub used: usize,
+    pub at: usize,
+}
+
+// A run after some closing turns, and where their text ends.
+pub struct Drained {
+    pub run: Run,
+    pub turns: usize,
+    pub at: usize,
+}
+
+fn wide(x: u8) -> usize
+    ensures { λ r. ⌜ (r ≡ x) × (r < 256) ⌝ }
+{
+    x as usize
+}
+
+pub fn head_of(head: &[u8]) -> Head
+    ensures { λ r. ⌜ r ≡ headOf (now (head .entry)) ⌝ }
+{
+    if head.len() == 0 {
+        return Head::Stopped;
+    }
+    if head[0] != 0x60 {
+        return Head::Refused(3);
+    }
+    if head.len() < 3 {
+        return Head::Stopped;
+    }
+    let length = wide(head[1]) + 256 * wide(head[2]);
+    if length == 0 {
+        return Head::Refused(1);
+    }
+    if 4096 < length {
+        return Head::Refused(1);
+    }
+    Head::Table(length)
+}
+
+// I, in an accepted table's first record.
+pub fn inputs_of(table: &[u8]) -> usize
+    requires { ⌜ 2 < length (now table) ⌝ }
+    ensures { λ r. ⌜ r ≡ getD (now (table .entry)) 2 0 ⌝ }
+{
+    wide(table[2])
+}
+
+// The words of the row that begins at byte `from`.
+fn row_words(input: &[u8], from: usize, inputs: usize, words: &mut [u32])
+    requires { ⌜ (from + 4 * inputs ≤ length (now input)) × (inputs ≤ length (now words)) ⌝ }
+    ensures { λ _. ⌜ take inputs (now (words .exit)) ≡ wordsAt (now (input .entry)) from inputs ⌝ }
+{
+    let mut i: usize = 0;
+    while i < inputs {
+        words[i] = lines::word_at(input, from + 4 * i);
+        i += 1;
+    }
+}
+
+// A line for each record in the first `count` bytes, or the line of the refusal.
+fn put_answer(number: u8, place: usize, out: &[u8], count: usize, text: &mut [u8], at: usize) -> usize
+    requires { ⌜ (count ≤ length (now out)) × (at + 3 * count ≤ length (now text)) × (at + 27 ≤ length (now text)) ⌝ }
+    ensures { λ r. ⌜ Wrote (now (text .entry)) at (answerText number place (take count (now (out .entry)))) (now (text .exit)) r ⌝ }
+{
+    if number == 0 {
+        lines::put_lines(out, count, text, at)
+    } else {
+        lines::put_refusal_line(text, at, number, place)
+    }
+}
+
+// The row that begins at byte `from`.
+fn answer_row(run: Run, table: &[u8], store: &mut [u32], input: &[u8], from: usize, inputs: usize, text: &mut [u8], at: usize) -> Turned
+    requires { ⌜ (from + 4 * inputs ≤ length (now input)) × (inputs ≤ 31) × (at + 1488 ≤ length (now text)) ⌝ }
+    ensures { λ r. ⌜ Reached (afterRow (now (table .entry)) (wordsAt (now (input .entry)) from inputs) (begun run (now (store .entry)))) (r .run) (now (store .exit)) (now (text .entry)) at (now (text .exit)) (r .at) ⌝ }
+{
+    let mut words = [0u32; 32];
+    let mut out = [0u8; 496];
+    row_words(input, from, inputs, &mut words);
+    let answer = run.row(table, store, &words[..inputs], &mut out);
+    let end = put_answer(answer.number, answer.place, &out, answer.count, text, at);
+    let next = answer.run;
+    Turned { run: next, at: end }
+}
+
+// Rows from the front of the input: as many as are there, whole, and as the text has room for.
+pub fn answer_rows(run: Run, table: &[u8], store: &mut [u32], input: &[u8], inputs: usize, text: &mut [u8]) -> Fed
+    requires { ⌜ (1 ≤ inputs) × (inputs ≤ 31) × (1488 ≤ length (now text)) ⌝ }
+    ensures { λ r. ⌜ Reached (afterRows (now (table .entry)) (now (input .entry)) inputs (r .rows) (begun run (now (store .entry)))) (r .run) (now (store .exit)) (now (text .entry)) 0 (now (text .exit)) (r .at) ⌝ }
+    ensures { λ r. ⌜ Taken (now (input .entry)) inputs (r .rows) (r .used) ⌝ }
+{
+    let size = 4 * inputs;
+    let mut latest = run;
+    let mut rows: usize = 0;
+    let mut used: usize = 0;
+    let mut at: usize = 0;
+    while size <= input.len() - used && 1488 <= text.len() - at {
+        let turned = answer_row(latest, table, store, input, used, inputs, text, at);
+        let next = turned.run;
+        latest = next;
+        at = turned.at;
+        used += size;
+        rows += 1;
+    }
+    Fed { run: latest, rows: rows, used: used, at: at }
+}
+
+pub fn is_draining(run: Run) -> bool {
+    let phase = run.phase;
+    match phase {
+        Phase::Reading => false,
+        Phase::Draining => true,
+        Phase::Over => false,
+    }
+}
+
+fn drain_turn(run: Run, table: &[u8], store: &mut [u32], text: &mut [u8], at: usize) -> Turned
+    requires { ⌜ at + 1488 ≤ length (now text) ⌝ }
+    ensures { λ r. ⌜ Reached (afterDrain (now (table .entry)) (begun run (now (store .entry)))) (r .run) (now (store .exit)) (now (text .entry)) at (now (text .exit)) (r .at) ⌝ }
+{
+    let mut out = [0u8; 496];
+    let answer = run.drain(table, store, &mut out);
+    let end = put_answer(answer.number, answer.place, &out, answer.count, text, at);
+    let next = answer.run;
+    Turned { run: next, at: end }
+}
+
+// Closing turns: as many as there are and as the text has room for. A run has fewer than 65,536, which ends the loop in any case.
+pub fn drain_turns(run: Run, table: &[u8], store: &mut [u32], text: &mut [u8]) -> Drained
+    requires { ⌜ 1488 ≤ length (now text) ⌝ }
+    ensures { λ r. ⌜ Reached (afterDrains (now (table .entry)) (r .turns) (begun run (now (store .entry)))) (r .run) (now (store .exit)) (now (text .entry)) 0 (now (text .exit)) (r .at) ⌝ }
+{
+    let mut latest = run;
+    let mut turns: usize = 0;
+    let mut at: usize = 0;
+    while turns < 65536 && 1488 <= text.len() - at && is_draining(latest) {
+        let turned = drain_turn(latest, table, store, text, at);
+        let next = turned.run;
+        latest = next;
+        at = turned.at;
+        turns += 1;
+    }
+    Drained { run: latest, turns: turns, at: at }
+}

@@ -1,0 +1,56 @@
+-- `row`: by a plan, or the record is not of the table.
+-- Assumes nothing.
+use mathlib.Core.Path.{_≡_, refl, sym, ap, _∙_}
+use native.Mathlib.Omega.{arith}
+use borrow.Author.Needs.{needs}
+use Rattle.plan.proofs.Held.{some-held, few-held}
+use Rattle.monitor.proofs.Refusals.{is-planned, unplanned, row-planned, row-accepted}
+use Rattle.monitor.proofs.Leaving.{row-taken, row-refused, row-foreign}
+use Rattle.monitor.proofs.Run.row.Statement.{statement}
+use Rattle.monitor.proofs.Run.row.Tie as tie
+
+row-fault-requires : tie.Need-row-fault-requires
+row-fault-requires c κs =
+    let x = is-planned (c .before .before .before .before .before .before .before .before .args .table .now) (c .before .before .before .before .before .before .before .before .args .self) (c .before .plan-of .result) (c .if1 .taken) (c .before .plan-of .ensures) in
+    omega (arith, some-held x, few-held x)
+
+turn-out-requires : tie.Need-turn-out-requires
+turn-out-requires c κs =
+    let x = is-planned (c .before .before .before .before .before .before .before .before .before .before .before .before .before .before .before .before .args .table .now) (c .before .before .before .before .before .before .before .before .before .before .before .before .before .before .before .before .args .self) (c .before .before .before .before .before .before .before .before .before .plan-of .result) (c .before .before .before .before .before .before .before .before .if1 .taken) (c .before .before .before .before .before .before .before .before .before .plan-of .ensures) in
+    let a = row-accepted _ _ _ _ _ _ _ _ _ _ (c .before .before .before .before .before .before .before .row-fault .ensures) (c .before .before .before .before .before .if2 .taken) in
+    (x, (a .store-long, (a .output-long, (omega (arith, c .before .before .before .before .wide .ensures .1), (omega (arith, c .before .before .before .before .wide .ensures .0, a .rows-left), λ _. omega (arith, a .row-length))))))
+
+add-t30 : tie.Need-add-t30
+add-t30 c =
+    let a = row-accepted _ _ _ _ _ _ _ _ _ _ (c .before .before .before .before .before .before .before .before .before .before .before .before .before .row-fault .ensures) (c .before .before .before .before .before .before .before .before .before .before .before .if2 .taken) in
+    omega (arith, a .rows-left)
+
+returns : tie.Need-returns
+returns c =
+    let x = is-planned (c .before .before .before .before .before .before .before .before .before .before .before .before .before .before .before .before .before .before .before .before .before .before .args .table .now) (c .before .before .before .before .before .before .before .before .before .before .before .before .before .before .before .before .before .before .before .before .before .before .args .self) (c .before .before .before .before .before .before .before .before .before .before .before .before .before .before .before .plan-of .result) (c .before .before .before .before .before .before .before .before .before .before .before .before .before .before .if1 .taken) (c .before .before .before .before .before .before .before .before .before .before .before .before .before .before .before .plan-of .ensures) in
+    row-taken (c .before .before .before .before .before .before .before .before .before .before .before .before .before .before .before .before .before .before .before .before .before .before .args .table .now) (c .before .before .before .before .before .before .before .before .before .before .before .before .before .before .before .before .before .before .before .before .before .before .args .self) (c .before .before .before .before .before .before .before .before .before .before .before .before .before .before .before .before .before .before .before .before .before .before .args .row .now) (c .before .before .before .before .before .before .before .before .before .before .before .before .before .before .before .before .before .before .before .before .before .before .args .store .now) (c .before .before .before .before .before .before .before .before .before .before .before .before .before .before .before .before .before .before .before .before .before .before .args .out .now) (c .before .before .before .before .before .before .before .before .before .before .before .before .before .row-fault .ensures ∙ sym (row-planned (c .before .before .before .before .before .before .before .before .before .before .before .before .before .before .before .before .before .before .before .before .before .before .args .self) x _ _ _)) (c .before .before .before .before .before .before .before .before .before .before .before .if2 .taken) (c .before .before .before .before .before .before .before .before .before .before .wide .ensures .0) (c .before .before .before .before .before .turn-out .ensures)
+
+returns-2 : tie.Need-returns-2
+returns-2 c =
+    let x = is-planned (c .before .before .before .before .before .before .before .before .before .before .before .args .table .now) (c .before .before .before .before .before .before .before .before .before .before .before .args .self) (c .before .before .before .before .plan-of .result) (c .before .before .before .if1 .taken) (c .before .before .before .before .plan-of .ensures) in
+    row-refused (c .before .before .before .before .before .before .before .before .before .before .before .args .table .now) (c .before .before .before .before .before .before .before .before .before .before .before .args .self) (c .if2 .left) (c .before .before .before .before .before .before .before .before .before .before .before .args .row .now) (c .before .before .before .before .before .before .before .before .before .before .before .args .store .now) (c .before .before .before .before .before .before .before .before .before .before .before .args .out .now) (c .before .before .row-fault .ensures ∙ sym (row-planned (c .before .before .before .before .before .before .before .before .before .before .before .args .self) x _ _ _))
+
+returns-3 : tie.Need-returns-3
+returns-3 c = row-foreign (c .before .before .before .before .before .before .before .before .before .args .table .now) (c .before .before .before .before .before .before .before .before .before .args .self) (unplanned (c .before .before .before .before .before .before .before .before .before .args .table .now) (c .before .before .before .before .before .before .before .before .before .args .self) (c .before .before .plan-of .result) (c .before .if1 .left) (c .before .before .plan-of .ensures)) (c .foreign .ensures) (c .before .before .before .before .before .before .before .before .before .args .row .now) (c .before .before .before .before .before .before .before .before .before .args .store .now) (c .before .before .before .before .before .before .before .before .before .args .out .now)
+
+pub row-spec : {M : Type 1} → statement M
+row-spec =
+    tie.close
+    (tie.spec
+    (λ c κs. search needs)
+    row-fault-requires
+    (λ c κs. search needs)
+    (λ c. search needs)
+    turn-out-requires
+    add-t30
+    (λ c. search needs)
+    (λ c. search needs)
+    returns
+    (λ c κs. search needs)
+    returns-2
+    returns-3)

@@ -1,0 +1,20 @@
+-- `draining`: the phases one by one.
+-- Assumes nothing.
+use mathlib.Core.Path.{_≡_, refl, sym, ap, _∙_}
+use native.Mathlib.Omega.{arith}
+use borrow.Author.Needs.{needs}
+use Rattle.monitor.proofs.Tests.{draining-by}
+use Rattle.monitor.proofs.draining.Statement.{statement}
+use Rattle.monitor.proofs.draining.Tie as tie
+
+returns : tie.Need-returns
+returns c = draining-by _ 0 _ (c .before .match .keys1) refl
+
+returns-2 : tie.Need-returns-2
+returns-2 c = draining-by _ 1 _ (c .before .match .keys2) refl
+
+returns-3 : tie.Need-returns-3
+returns-3 c = draining-by _ 2 _ (c .before .match .keys3) refl
+
+pub draining-spec : {M : Type 1} → statement M
+draining-spec = tie.close (tie.spec (λ c. search needs) (λ c. search needs) (λ c. search needs) returns returns-2 returns-3)

@@ -1,0 +1,5 @@
+pub mod Turns
+pub mod Refusals
+pub mod Calls
+pub mod Runs
+pub mod Ran

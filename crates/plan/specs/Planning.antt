@@ -1,0 +1,40 @@
+-- The plan that a call makes of the table's bytes by its record's numbers, without the square (document 01, "Every call tests the table
+-- first" and refusal 10). Assumes nothing.
+use Prim.Native.Nat.{ℕ, _+_, _-_, _*_, _<_}
+use mathlib.Core.Path.{_≡_}
+use mathlib.Core.Bool.{Bool, true, false}
+use mathlib.Core.List.{List, _++_}
+use lib.ListN.{getD, replicate}
+use Rattle.basis.specs.Sums.{total, most}
+use Rattle.basis.specs.Edges.{among}
+use Rattle.table.specs.Table.{Table, decoded, decode, streams, edges}
+use Rattle.table.specs.Answers.{padded, startsOf}
+use Rattle.certificate.specs.Certificate.{of, Ordered}
+use Rattle.announce.specs.Announced.{announced}
+use Rattle.plan.specs.declared.Plan.{Plan}
+
+-- the bytes are those of an accepted table, look and kept are the numbers announced of it, and p holds what a turn goes by
+pub record Plans (s look kept : List ℕ) (p : Plan) : Type 0 where
+  pub accepted : announced s .number ≡ 0
+  pub look-is : announced s .look ≡ look
+  pub kept-is : announced s .kept ≡ kept
+  pub words-are : p .words ≡ announced s .words
+  pub room-is : p .room ≡ announced s .room
+  pub closing-is : p .closing ≡ announced s .closing
+  pub words-sum : p .words ≡ total (of kept) (p .streams)
+  pub room-sum : p .room ≡ 10 * (p .streams - p .inputs) + 6 * total (of (p .roles)) (p .streams)
+  pub closing-most : p .closing ≡ most (of look) (p .streams)
+  pub table : Table
+  pub decodes : decode s ≡ decoded table
+  pub inputs-are : p .inputs ≡ table .inputs
+  pub streams-are : p .streams ≡ streams table
+  pub types-are : p .types ≡ padded (table .types)
+  pub roles-are : p .roles ≡ padded (table .roles)
+  pub starts-are : p .starts ≡ padded (replicate (table .inputs) 0 ++ startsOf (table .equations))
+  pub parts-are : (v : ℕ) → v < p .streams → getD (p .parts) v 0 ≡ total (of kept) v
+  pub ordered : Ordered (among (edges table)) (streams table) (of look) (of kept) (p .order)
+
+-- by `ok`: a plan, or the numbers are not those announced of an accepted table
+abbrev pub Planning : Bool → (s look kept : List ℕ) → Plan → Type 0
+Planning true s look kept p = Plans s look kept p
+Planning false s look kept p = announced s .number ≡ 0 → announced s .look ≡ look → announced s .kept ≡ kept → ⊥

@@ -1,0 +1,12 @@
+#!/bin/sh
+# Builds the reference and the comparison with plain rustc, from the repository's root, into
+# target/tests. Needs Rust's own library only.
+set -e
+out=target/tests
+mkdir -p "$out"
+rustc -O --edition 2021 --crate-name reference --crate-type rlib \
+    -o "$out/libreference.rlib" tests/reference/lib.rs
+for program in reference compare; do
+    rustc -O --edition 2021 --extern reference="$out/libreference.rlib" \
+        -o "$out/$program" "tests/$program/main.rs"
+done
