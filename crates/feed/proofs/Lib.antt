@@ -3,3 +3,4 @@ pub mod Words
 pub mod Answers
 pub mod Turns
 pub mod Inputs
+pub mod Pieces

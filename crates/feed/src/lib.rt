@@ -1,15 +1,11 @@
 // What turns the program's input into its lines, on lent slices (document 01, "The program"). Reads and writes are the program's.
 use monitor::Phase;
 use monitor::Run;
-
 ghost use mathlib.Core.Path.{_≡_};
-ghost use mathlib.Core.Logic.{_⊎_};
-ghost use mathlib.Core.List.{[], _++_};
 ghost use Prim.Native.Nat.{_+_, _*_, _≤_, _<_};
 ghost use lib.ListN.{length, take, getD};
 ghost use Rattle.basis.specs.Written.{Wrote};
-ghost use Rattle.lines.specs.Lines.{linesOf, refusalLine};
-ghost use Rattle.monitor.specs.Calls.{openCall};
+ghost use Rattle.monitor.specs.Refusals.{isDraining};
 ghost use Rattle.feed.specs.Head.{headOf, wordsAt};
 ghost use Rattle.feed.specs.Rows.{answerText, begun, afterRow, afterRows, afterDrain, afterDrains, Reached, Taken};
 
@@ -20,7 +16,8 @@ pub enum Head {
     Table(usize),
 }
 
-// A run after a turn, and where its text ends.
+// A run after a turn, and where its text ends. A turn gives at most 16 bytes for each of 31 outputs, 496 in all ("Room"), and their lines
+// take at most three times as many, 1,488.
 struct Turned {
     run: Run,
     at: usize,
@@ -47,6 +44,7 @@ fn wide(x: u8) -> usize
     x as usize
 }
 
+// The head, as far as the input has it.
 pub fn head_of(head: &[u8]) -> Head
     ensures { λ r. ⌜ r ≡ headOf (now (head .entry)) ⌝ }
 {
@@ -90,7 +88,14 @@ fn row_words(input: &[u8], from: usize, inputs: usize, words: &mut [u32])
 }
 
 // A line for each record in the first `count` bytes, or the line of the refusal.
-fn put_answer(number: u8, place: usize, out: &[u8], count: usize, text: &mut [u8], at: usize) -> usize
+fn put_answer(
+    number: u8,
+    place: usize,
+    out: &[u8],
+    count: usize,
+    text: &mut [u8],
+    at: usize,
+) -> usize
     requires { ⌜ (count ≤ length (now out)) × (at + 3 * count ≤ length (now text)) × (at + 27 ≤ length (now text)) ⌝ }
     ensures { λ r. ⌜ Wrote (now (text .entry)) at (answerText number place (take count (now (out .entry)))) (now (text .exit)) r ⌝ }
 {
@@ -101,8 +106,17 @@ fn put_answer(number: u8, place: usize, out: &[u8], count: usize, text: &mut [u8
     }
 }
 
-// The row that begins at byte `from`.
-fn answer_row(run: Run, table: &[u8], store: &mut [u32], input: &[u8], from: usize, inputs: usize, text: &mut [u8], at: usize) -> Turned
+// The lines of the row that begins at byte `from`, or of its refusal.
+fn answer_row(
+    run: Run,
+    table: &[u8],
+    store: &mut [u32],
+    input: &[u8],
+    from: usize,
+    inputs: usize,
+    text: &mut [u8],
+    at: usize,
+) -> Turned
     requires { ⌜ (from + 4 * inputs ≤ length (now input)) × (inputs ≤ 31) × (at + 1488 ≤ length (now text)) ⌝ }
     ensures { λ r. ⌜ Reached (afterRow (now (table .entry)) (wordsAt (now (input .entry)) from inputs) (begun run (now (store .entry)))) (r .run) (now (store .exit)) (now (text .entry)) at (now (text .exit)) (r .at) ⌝ }
 {
@@ -116,7 +130,14 @@ fn answer_row(run: Run, table: &[u8], store: &mut [u32], input: &[u8], from: usi
 }
 
 // Rows from the front of the input: as many as are there, whole, and as the text has room for.
-pub fn answer_rows(run: Run, table: &[u8], store: &mut [u32], input: &[u8], inputs: usize, text: &mut [u8]) -> Fed
+pub fn answer_rows(
+    run: Run,
+    table: &[u8],
+    store: &mut [u32],
+    input: &[u8],
+    inputs: usize,
+    text: &mut [u8],
+) -> Fed
     requires { ⌜ (1 ≤ inputs) × (inputs ≤ 31) × (1488 ≤ length (now text)) ⌝ }
     ensures { λ r. ⌜ Reached (afterRows (now (table .entry)) (now (input .entry)) inputs (r .rows) (begun run (now (store .entry)))) (r .run) (now (store .exit)) (now (text .entry)) 0 (now (text .exit)) (r .at) ⌝ }
     ensures { λ r. ⌜ Taken (now (input .entry)) inputs (r .rows) (r .used) ⌝ }
@@ -134,10 +155,18 @@ pub fn answer_rows(run: Run, table: &[u8], store: &mut [u32], input: &[u8], inpu
         used += size;
         rows += 1;
     }
-    Fed { run: latest, rows: rows, used: used, at: at }
+    Fed {
+        run: latest,
+        rows: rows,
+        used: used,
+        at: at,
+    }
 }
 
-pub fn is_draining(run: Run) -> bool {
+// Whether closing turns are left.
+pub fn is_draining(run: Run) -> bool
+    ensures { λ r. ⌜ r ≡ isDraining (run .phase) ⌝ }
+{
     let phase = run.phase;
     match phase {
         Phase::Reading => false,
@@ -146,6 +175,7 @@ pub fn is_draining(run: Run) -> bool {
     }
 }
 
+// The lines of one closing turn.
 fn drain_turn(run: Run, table: &[u8], store: &mut [u32], text: &mut [u8], at: usize) -> Turned
     requires { ⌜ at + 1488 ≤ length (now text) ⌝ }
     ensures { λ r. ⌜ Reached (afterDrain (now (table .entry)) (begun run (now (store .entry)))) (r .run) (now (store .exit)) (now (text .entry)) at (now (text .exit)) (r .at) ⌝ }
@@ -172,5 +202,9 @@ pub fn drain_turns(run: Run, table: &[u8], store: &mut [u32], text: &mut [u8]) -
         at = turned.at;
         turns += 1;
     }
-    Drained { run: latest, turns: turns, at: at }
+    Drained {
+        run: latest,
+        turns: turns,
+        at: at,
+    }
 }

@@ -3,7 +3,6 @@ use feed::Head;
 use libc::STDIN_FILENO;
 use libc::STDOUT_FILENO;
 use monitor::Run;
-
 ghost use mathlib.Core.Path.{_≡_};
 ghost use Prim.Native.Nat.{_+_, _*_, _-_, _≤_, _<_};
 ghost use lib.ListN.{length};
@@ -72,7 +71,15 @@ fn read_more(input: &mut [u8], have: usize) -> usize
 }
 
 // Answers every whole row of the input up to `end`, and writes the text as often as it is full and at the end.
-fn answer_all(run: Run, table: &[u8], store: &mut [u32], inputs: usize, input: &[u8], end: usize, text: &mut [u8]) -> Answered
+fn answer_all(
+    run: Run,
+    table: &[u8],
+    store: &mut [u32],
+    inputs: usize,
+    input: &[u8],
+    end: usize,
+    text: &mut [u8],
+) -> Answered
     requires { ⌜ (1 ≤ inputs) × (inputs ≤ 31) × (end ≤ length (now input)) × (1488 ≤ length (now text)) ⌝ }
     ensures { λ r. ⌜ (r .used ≤ end) × (end - r .used < 4 * inputs) ⌝ }
 {
@@ -85,7 +92,10 @@ fn answer_all(run: Run, table: &[u8], store: &mut [u32], inputs: usize, input: &
         latest = next;
         used += fed.used;
     }
-    Answered { run: latest, used: used }
+    Answered {
+        run: latest,
+        used: used,
+    }
 }
 
 // Moves the bytes from `used` up to `end` to the front.
@@ -103,7 +113,15 @@ fn keep_rest(input: &mut [u8], used: usize, end: usize) -> usize
 }
 
 // One read, and the lines of all rows that are whole with it.
-fn take_some(run: Run, table: &[u8], store: &mut [u32], inputs: usize, input: &mut [u8], have: usize, text: &mut [u8]) -> Piece
+fn take_some(
+    run: Run,
+    table: &[u8],
+    store: &mut [u32],
+    inputs: usize,
+    input: &mut [u8],
+    have: usize,
+    text: &mut [u8],
+) -> Piece
     requires { ⌜ (1 ≤ inputs) × (inputs ≤ 31) × (have ≤ length (now input)) × (length (now input) ≡ 65536) × (1488 ≤ length (now text)) ⌝ }
     ensures { λ r. ⌜ (r .have < 4 * inputs) × (r .got ≤ 65536) ⌝ }
 {
@@ -112,10 +130,14 @@ fn take_some(run: Run, table: &[u8], store: &mut [u32], inputs: usize, input: &m
     let answered = answer_all(run, table, store, inputs, input, end, text);
     let left = keep_rest(input, answered.used, end);
     let next = answered.run;
-    Piece { run: next, have: left, got: got }
+    Piece {
+        run: next,
+        have: left,
+        got: got,
+    }
 }
 
-// The closing turns and the last line.
+// The closing turns and the last line. Each piece has a turn at least, and a run has fewer than 65,536: the count only ends the loop.
 fn finish(run: Run, table: &[u8], store: &mut [u32], text: &mut [u8])
     requires { ⌜ 1488 ≤ length (now text) ⌝ }
 {
@@ -134,7 +156,14 @@ fn finish(run: Run, table: &[u8], store: &mut [u32], text: &mut [u8])
 }
 
 // Rows until the input ends. A proved loop has to end, and nothing says that the input does: so it stops below 2^64 bytes.
-fn take_rows(run: Run, table: &[u8], store: &mut [u32], inputs: usize, input: &mut [u8], text: &mut [u8])
+fn take_rows(
+    run: Run,
+    table: &[u8],
+    store: &mut [u32],
+    inputs: usize,
+    input: &mut [u8],
+    text: &mut [u8],
+)
     requires { ⌜ (1 ≤ inputs) × (inputs ≤ 31) × (length (now table) ≤ 4096) × (length (now input) ≡ 65536) × (1488 ≤ length (now text)) ⌝ }
 {
     let mut latest = run;

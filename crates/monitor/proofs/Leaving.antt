@@ -66,7 +66,7 @@ module _ (s : List ℕ) (r : Run) where
       (record {
         answer-is = λ i. record { run = record { look = r .look; kept = r .kept; rows = r .rows; phase = p i; done = eq i }; number = 0; place = 0; count = v .output-is .counted i };
         store-is = v .store-is;
-        output-is = v .output-is .written
+        output-is = v .output-is .written;
       })
 
   pub close-taken : {f : Fault} {phase : Phase} → f ≡ closeFault s r → f .number ≡ 0 → phase ≡ closedPhase (r .rows) (announced s .closing)
@@ -95,10 +95,10 @@ module _ (s st : List ℕ) {c : Checked} (e : c ≡ announced s) where
   unfolding openCall
   opening-taken {st1} h l g =
       let x : openCall s st ≡ acceptance (record { look = announced s .look; kept = announced s .kept; rows = 0; phase = Reading; done = 0 }) (replicate (announced s .words) 0 ++ drop (announced s .words) st) [] [] =
-        rw (open-0 s e (length st) h l) refl in
+      rw (open-0 s e (length st) h l) refl in
       record {
         answer-is = (λ i. record { run = record { look = e i .look; kept = e i .kept; rows = 0; phase = Reading; done = 0 }; number = 0; place = 0; count = 0 }) ∙ ap (λ (a : After). a .answer) (sym x);
-        store-is = g ∙ ap (λ (d : Checked). replicate (d .words) 0 ++ drop (d .words) st) e ∙ ap (λ (a : After). a .store) (sym x)
+        store-is = g ∙ ap (λ (d : Checked). replicate (d .words) 0 ++ drop (d .words) st) e ∙ ap (λ (a : After). a .store) (sym x);
       }
 
 -- a record whose numbers are not those of an accepted table of these bytes

@@ -33,8 +33,8 @@ gather-words look n t f zero y = refl
 gather-words look n t f (suc k) y = go (due look n t y) (gather-words look n t f k (suc y))
   where
     go : (b : Bool) → gather look n t (λ v. imageOf (f v)) k (suc y) ≡ map inWords (gather look n t f k (suc y))
-      → cond b (record { stream = y; position = t - look y; word = imageOf (f y) } ∷ gather look n t (λ v. imageOf (f v)) k (suc y)) (gather look n t (λ v. imageOf (f v)) k (suc y))
-      ≡ map inWords (cond b (record { stream = y; position = t - look y; word = f y } ∷ gather look n t f k (suc y)) (gather look n t f k (suc y)))
+        → cond b (record { stream = y; position = t - look y; word = imageOf (f y) } ∷ gather look n t (λ v. imageOf (f v)) k (suc y)) (gather look n t (λ v. imageOf (f v)) k (suc y))
+        ≡ map inWords (cond b (record { stream = y; position = t - look y; word = f y } ∷ gather look n t f k (suc y)) (gather look n t f k (suc y)))
     go true e = ap (λ (l : List (Given ℕ)). record { stream = y; position = t - look y; word = imageOf (f y) } ∷ l) e
     go false e = e
 
@@ -44,7 +44,7 @@ unfolding encode recordOf
 encode-same rs us h [] = refl
 encode-same rs us h (g ∷ gs) =
     λ i. (valueRecord (g .stream) (g .position) (g .word) ++ cond (eqb (h (g .stream) i) 1 && not (eqb (g .word) 0)) (triggerRecord (g .stream) (g .position)) [])
-      ++ encode-same rs us h gs i
+    ++ encode-same rs us h gs i
 
 module _ {s look kept : List ℕ} {p : Plan} (x : Plans s look kept p) (n t : ℕ) (ws st : List ℕ) (h : p .words ≤ length st) where
   abbrev q : run.Plan Value ℕ ℕ
@@ -67,7 +67,7 @@ module _ {s look kept : List ℕ} {p : Plan} (x : Plans s look kept p) (n t : �
   output-same =
       ap (encode (p .roles))
       (gather-cong (of look) n n t (wordOn look kept (storeAfter q n t ws st) t) (λ v. imageOf (dueOf q n t ws st v)) (p .streams - p .inputs) (p .inputs) (λ v. refl)
-        (λ v a b d. word-after v (omega (arith, b, some-held x)) d)
+      (λ v a b d. word-after v (omega (arith, b, some-held x)) d)
       ∙ gather-words (of look) n t (dueOf q n t ws st) (p .streams - p .inputs) (p .inputs))
       ∙ encode-same (p .roles) (tableFor s .roles) roles-same (map inWords (gather (of look) n t (dueOf q n t ws st) (p .streams - p .inputs) (p .inputs)))
       ∙ ap (λ (a : run.Plan Value ℕ ℕ). encode (tableFor s .roles) (map inWords (givenOn a n t ws st))) (sym (plan-held x))
@@ -79,8 +79,8 @@ module _ {s look kept : List ℕ} {p : Plan} (x : Plans s look kept p) (n t : �
   turned {out} {st1} {out1} {count} a b =
       let e : st1 ≡ storeAfter q n t ws st = a (ready x (length st) h) in
       let g : outputOf (p .roles) look kept st1 n t (p .streams - p .inputs) (p .inputs) ≡ bytesOn s n t ws st =
-        ap (λ (l : List ℕ). outputOf (p .roles) look kept l n t (p .streams - p .inputs) (p .inputs)) e ∙ output-same in
+      ap (λ (l : List ℕ). outputOf (p .roles) look kept l n t (p .streams - p .inputs) (p .inputs)) e ∙ output-same in
       record {
         store-is = e ∙ ap (λ (a : run.Plan Value ℕ ℕ). storeAfter a n t ws st) (sym (plan-held x));
-        output-is = rw g at b
+        output-is = rw g at b;
       }

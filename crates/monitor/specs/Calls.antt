@@ -51,8 +51,8 @@ unfoldable pub rowCall : (s : List ℕ) → Run → (ws st out : List ℕ) → A
 rowCall s r ws st out =
     unless (rowFault s r (length st) ws (length out)) (refusal r (rowFault s r (length st) ws (length out)) st out)
     (acceptance (record { look = r .look; kept = r .kept; rows = r .rows + 1; phase = Reading; done = 0 })
-      (storeAfter (planFor s) (r .rows + 1) (r .rows) ws st)
-      (bytesOn s (r .rows + 1) (r .rows) ws st) out)
+    (storeAfter (planFor s) (r .rows + 1) (r .rows) ws st)
+    (bytesOn s (r .rows + 1) (r .rows) ws st) out)
 
 -- "Closing fixes N; with N = 0 or no closing turns the run is over"
 unfoldable pub closedPhase : (rows closing : ℕ) → Phase
@@ -72,8 +72,8 @@ unfoldable pub drainCall : (s : List ℕ) → Run → (st out : List ℕ) → Af
 drainCall s r st out =
     unless (drainFault s r (length st) (length out)) (refusal r (drainFault s r (length st) (length out)) st out)
     (acceptance (record { look = r .look; kept = r .kept; rows = r .rows; phase = drainedPhase (r .done + 1) (announced s .closing); done = r .done + 1 })
-      (storeAfter (planFor s) (r .rows) (r .rows + r .done) [] st)
-      (bytesOn s (r .rows) (r .rows + r .done) [] st) out)
+    (storeAfter (planFor s) (r .rows) (r .rows + r .done) [] st)
+    (bytesOn s (r .rows) (r .rows + r .done) [] st) out)
 
 -- what a call left is what the definition says: its answer, the store and the output behind the lent slices
 pub record Leaves (x : After) (a : Answer) (st out : List ℕ) : Type 0 where

@@ -10,7 +10,6 @@ ghost use Rattle.plan.specs.Planning.{Plans};
 ghost use Rattle.monitor.specs.Turns.{Turned};
 ghost use Rattle.monitor.specs.Refusals.{fault, fine, refuseIf, afterTable, recordAgrees, isReading, isDraining, openFault, closeRefusal, agreesWith, rowTests, drainTests};
 ghost use Rattle.monitor.specs.Calls.{closedPhase, drainedPhase, openCall, rowCall, closeCall, drainCall, Leaves, Opens};
-
 use plan::Plan;
 
 pub enum Phase {
@@ -55,7 +54,11 @@ fn agrees(phase: Phase, rows: u32, done: u16, closing: u16) -> bool
     match phase {
         Phase::Reading => done == 0,
         Phase::Draining => if 0 < rows { done < closing } else { false },
-        Phase::Over => if rows == 0 { done == 0 } else { done == closing },
+        Phase::Over => if rows == 0 {
+            done == 0
+        } else {
+            done == closing
+        },
     }
 }
 
@@ -102,14 +105,30 @@ fn foreign(table: &[u8]) -> Fault
 {
     let c = announce::check(table);
     if c.number == 0 {
-        Fault { number: 10, place: 0 }
+        Fault {
+            number: 10,
+            place: 0,
+        }
     } else {
-        Fault { number: c.number, place: c.place }
+        Fault {
+            number: c.number,
+            place: c.place,
+        }
     }
 }
 
 // Turn t, where `known` rows are known: the store, then the output; the number of bytes.
-fn turn_out(plan: Plan, look: &[u16; 32], kept: &[u16; 32], table: &[u8], store: &mut [u32], row: &[u32], out: &mut [u8], known: u64, t: u64) -> usize
+fn turn_out(
+    plan: Plan,
+    look: &[u16; 32],
+    kept: &[u16; 32],
+    table: &[u8],
+    store: &mut [u32],
+    row: &[u32],
+    out: &mut [u8],
+    known: u64,
+    t: u64,
+) -> usize
     requires { ⌜ Plans (now table) (now look) (now kept) plan × ((plan .words ≤ length (now store)) × ((plan .room ≤ length (now out)) × ((t + 128 < 2 ^ 64) × ((known < 2 ^ 32) × (t < known → plan .inputs ≤ length (now row)))))) ⌝ }
     ensures { λ r. ⌜ Turned (now (table .entry)) known t (now (row .entry)) (now (store .entry)) (now (out .entry)) (now (store .exit)) (now (out .exit)) r ⌝ }
 {
@@ -120,8 +139,33 @@ fn turn_out(plan: Plan, look: &[u16; 32], kept: &[u16; 32], table: &[u8], store:
     let order = plan.order;
     let inputs = plan.inputs;
     let streams = plan.streams;
-    evaluate::turn(table, store, row, &types, look, kept, &parts, &starts, &order, inputs, streams, known, t);
-    output::emit(store, out, &roles, look, kept, &parts, inputs, streams, known, t)
+    evaluate::turn(
+        table,
+        store,
+        row,
+        &types,
+        look,
+        kept,
+        &parts,
+        &starts,
+        &order,
+        inputs,
+        streams,
+        known,
+        t,
+    );
+    output::emit(
+        store,
+        out,
+        &roles,
+        look,
+        kept,
+        &parts,
+        inputs,
+        streams,
+        known,
+        t,
+    )
 }
 
 // "Opening puts 0 into exactly the announced store words."
@@ -129,10 +173,10 @@ fn clear(store: &mut [u32], words: usize)
     requires { ⌜ words ≤ length (now store) ⌝ }
     ensures { λ r. ⌜ now (store .exit) ≡ replicate words 0 ++ drop words (now (store .entry)) ⌝ }
 {
-    let mut i: usize = 0;
-    while i < words {
-        store[i] = 0;
-        i += 1;
+    let mut word: usize = 0;
+    while word < words {
+        store[word] = 0;
+        word += 1;
     }
 }
 
@@ -145,18 +189,51 @@ pub fn open(table: &[u8], store: &mut [u32]) -> Answer
     let place = c.place;
     let words = c.words;
     if number != 0 {
-        let run = Run { look: [0u16; 32], kept: [0u16; 32], rows: 0, phase: Phase::Reading, done: 0 };
-        return Answer { run: run, number: number, place: place, count: 0 };
+        let run = Run {
+            look: [0u16; 32],
+            kept: [0u16; 32],
+            rows: 0,
+            phase: Phase::Reading,
+            done: 0,
+        };
+        return Answer {
+            run: run,
+            number: number,
+            place: place,
+            count: 0,
+        };
     }
     if store.len() < words {
-        let run = Run { look: [0u16; 32], kept: [0u16; 32], rows: 0, phase: Phase::Reading, done: 0 };
-        return Answer { run: run, number: 11, place: 0, count: 0 };
+        let run = Run {
+            look: [0u16; 32],
+            kept: [0u16; 32],
+            rows: 0,
+            phase: Phase::Reading,
+            done: 0,
+        };
+        return Answer {
+            run: run,
+            number: 11,
+            place: 0,
+            count: 0,
+        };
     }
     clear(store, words);
     let look = c.look;
     let kept = c.kept;
-    let run = Run { look: look, kept: kept, rows: 0, phase: Phase::Reading, done: 0 };
-    Answer { run: run, number: 0, place: 0, count: 0 }
+    let run = Run {
+        look: look,
+        kept: kept,
+        rows: 0,
+        phase: Phase::Reading,
+        done: 0,
+    };
+    Answer {
+        run: run,
+        number: 0,
+        place: 0,
+        count: 0,
+    }
 }
 
 impl Run {
@@ -170,29 +247,53 @@ impl Run {
             let types = plan.types;
             let inputs = plan.inputs;
             if lent < plan.words {
-                return Fault { number: 11, place: 0 };
+                return Fault {
+                    number: 11,
+                    place: 0,
+                };
             }
             if reading(phase) {
                 if 4294967295 <= self.rows {
-                    return Fault { number: 13, place: 0 };
+                    return Fault {
+                        number: 13,
+                        place: 0,
+                    };
                 }
                 if row.len() == inputs {
                     let bad = first_bad(row, types, inputs);
                     if bad < inputs {
-                        return Fault { number: 15, place: bad };
+                        return Fault {
+                            number: 15,
+                            place: bad,
+                        };
                     }
                     if space < plan.room {
-                        return Fault { number: 16, place: 0 };
+                        return Fault {
+                            number: 16,
+                            place: 0,
+                        };
                     }
-                    Fault { number: 0, place: 0 }
+                    Fault {
+                        number: 0,
+                        place: 0,
+                    }
                 } else {
-                    Fault { number: 14, place: 0 }
+                    Fault {
+                        number: 14,
+                        place: 0,
+                    }
                 }
             } else {
-                Fault { number: 12, place: 0 }
+                Fault {
+                    number: 12,
+                    place: 0,
+                }
             }
         } else {
-            Fault { number: 10, place: 0 }
+            Fault {
+                number: 10,
+                place: 0,
+            }
         }
     }
 
@@ -208,13 +309,34 @@ impl Run {
             if f.number == 0 {
                 let t = wide(self.rows);
                 let count = turn_out(plan, &look, &kept, table, store, row, out, t + 1, t);
-                let run = Run { look: look, kept: kept, rows: self.rows + 1, phase: Phase::Reading, done: 0 };
-                return Answer { run: run, number: 0, place: 0, count: count };
+                let run = Run {
+                    look: look,
+                    kept: kept,
+                    rows: self.rows + 1,
+                    phase: Phase::Reading,
+                    done: 0,
+                };
+                return Answer {
+                    run: run,
+                    number: 0,
+                    place: 0,
+                    count: count,
+                };
             }
-            Answer { run: self, number: f.number, place: f.place, count: 0 }
+            Answer {
+                run: self,
+                number: f.number,
+                place: f.place,
+                count: 0,
+            }
         } else {
             let f = foreign(table);
-            Answer { run: self, number: f.number, place: f.place, count: 0 }
+            Answer {
+                run: self,
+                number: f.number,
+                place: f.place,
+                count: 0,
+            }
         }
     }
 }
@@ -234,7 +356,11 @@ fn closed_phase(rows: u32, closing: u16) -> Phase
 fn drained_phase(done: u16, closing: u16) -> Phase
     ensures { λ r. ⌜ r ≡ drainedPhase done closing ⌝ }
 {
-    if done < closing { Phase::Draining } else { Phase::Over }
+    if done < closing {
+        Phase::Draining
+    } else {
+        Phase::Over
+    }
 }
 
 fn one_more(done: u16, closing: u16) -> u16
@@ -252,12 +378,21 @@ impl Run {
         let phase = self.phase;
         if agrees(phase, self.rows, self.done, closing) {
             if reading(phase) {
-                Fault { number: 0, place: 0 }
+                Fault {
+                    number: 0,
+                    place: 0,
+                }
             } else {
-                Fault { number: 12, place: 0 }
+                Fault {
+                    number: 12,
+                    place: 0,
+                }
             }
         } else {
-            Fault { number: 10, place: 0 }
+            Fault {
+                number: 10,
+                place: 0,
+            }
         }
     }
 
@@ -272,13 +407,34 @@ impl Run {
             let f = self.close_fault(plan.closing);
             if f.number == 0 {
                 let phase = closed_phase(self.rows, plan.closing);
-                let run = Run { look: look, kept: kept, rows: self.rows, phase: phase, done: 0 };
-                return Answer { run: run, number: 0, place: 0, count: 0 };
+                let run = Run {
+                    look: look,
+                    kept: kept,
+                    rows: self.rows,
+                    phase: phase,
+                    done: 0,
+                };
+                return Answer {
+                    run: run,
+                    number: 0,
+                    place: 0,
+                    count: 0,
+                };
             }
-            Answer { run: self, number: f.number, place: f.place, count: 0 }
+            Answer {
+                run: self,
+                number: f.number,
+                place: f.place,
+                count: 0,
+            }
         } else {
             let f = foreign(table);
-            Answer { run: self, number: f.number, place: f.place, count: 0 }
+            Answer {
+                run: self,
+                number: f.number,
+                place: f.place,
+                count: 0,
+            }
         }
     }
 
@@ -289,18 +445,33 @@ impl Run {
         let phase = self.phase;
         if agrees(phase, self.rows, self.done, plan.closing) {
             if lent < plan.words {
-                return Fault { number: 11, place: 0 };
+                return Fault {
+                    number: 11,
+                    place: 0,
+                };
             }
             if draining(phase) {
                 if space < plan.room {
-                    return Fault { number: 16, place: 0 };
+                    return Fault {
+                        number: 16,
+                        place: 0,
+                    };
                 }
-                Fault { number: 0, place: 0 }
+                Fault {
+                    number: 0,
+                    place: 0,
+                }
             } else {
-                Fault { number: 12, place: 0 }
+                Fault {
+                    number: 12,
+                    place: 0,
+                }
             }
         } else {
-            Fault { number: 10, place: 0 }
+            Fault {
+                number: 10,
+                place: 0,
+            }
         }
     }
 
@@ -319,13 +490,34 @@ impl Run {
                 let count = turn_out(plan, &look, &kept, table, store, &[], out, known, t);
                 let done = one_more(self.done, plan.closing);
                 let phase = drained_phase(done, plan.closing);
-                let run = Run { look: look, kept: kept, rows: self.rows, phase: phase, done: done };
-                return Answer { run: run, number: 0, place: 0, count: count };
+                let run = Run {
+                    look: look,
+                    kept: kept,
+                    rows: self.rows,
+                    phase: phase,
+                    done: done,
+                };
+                return Answer {
+                    run: run,
+                    number: 0,
+                    place: 0,
+                    count: count,
+                };
             }
-            Answer { run: self, number: f.number, place: f.place, count: 0 }
+            Answer {
+                run: self,
+                number: f.number,
+                place: f.place,
+                count: 0,
+            }
         } else {
             let f = foreign(table);
-            Answer { run: self, number: f.number, place: f.place, count: 0 }
+            Answer {
+                run: self,
+                number: f.number,
+                place: f.place,
+                count: 0,
+            }
         }
     }
 }

@@ -35,5 +35,5 @@ plan-announced s n =
     record {
       types = t .types;
       rank = order .rank;
-      is = subst (λ (d : Decoded). Announced (planOf (tableIn d) (lookFor s) (keptFor s) (announced s .closing) (announced s .room) (rowFits (tableIn d))) (order .rank) (FitsIn (t .types))) (sym (x .decodes)) a
+      is = subst (λ (d : Decoded). Announced (planOf (tableIn d) (lookFor s) (keptFor s) (announced s .closing) (announced s .room) (rowFits (tableIn d))) (order .rank) (FitsIn (t .types))) (sym (x .decodes)) a;
     }

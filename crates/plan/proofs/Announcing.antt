@@ -120,8 +120,8 @@ module _ (s : List ℕ) (t : Table) (e : decode s ≡ decoded t) where
             bounded = record {
               look-past = λ v g l. ap (λ (f : ℕ → ℕ). f v) (sym look-function) ∙ look-past v g;
               kept-past = λ v g l. ap (λ (f : ℕ → ℕ). f v) (sym kept-function) ∙ kept-past v g;
-              store = subst (λ (f : ℕ → ℕ). total f (streams t) ≤ 4096) kept-function few
-            }
+              store = subst (λ (f : ℕ → ℕ). total f (streams t) ≤ 4096) kept-function few;
+            };
           }
 
 -- what acceptance of the bytes gives
@@ -146,7 +146,7 @@ module _ (s : List ℕ) (t : Table) (e : decode s ≡ decoded t) where
         decodes = e;
         certified = accepted-certified s t e (announced s .look) (announced s .kept) l k h (leb-true _ _ few);
         words-are = ap (λ (c : Checked). c .words) a ∙ ap (λ (f : ℕ → ℕ). total f (streams t)) (kept-function s t e (announced s .look) (announced s .kept) l k);
-        closing-is = ap (λ (c : Checked). c .closing) a ∙ ap (λ (f : ℕ → ℕ). most f (streams t)) (look-function s t e (announced s .look) (announced s .kept) l k)
+        closing-is = ap (λ (c : Checked). c .closing) a ∙ ap (λ (f : ℕ → ℕ). most f (streams t)) (look-function s t e (announced s .look) (announced s .kept) l k);
       }
   by-tests true false h few a n = absurd (omega (arith, ap (λ (c : Checked). c .number) a, n))
   by-tests false y h few a n = absurd (omega (arith, ap (λ (c : Checked). c .number) a, n))

@@ -66,23 +66,23 @@ module _ {s look kept : List ℕ} {p : Plan} (x : Plans s look kept p) where
 
   held-table : table-plan ≡ held-plan
   held-table = λ i. record {
-      spec = record {
-        inputs = sym (x .inputs-are) i;
-        streams = sym (x .streams-are) i;
-        equation = λ y. meaning-same (t .types) (p .types) types-held (equationOf t y .expr) i;
-        ops = ops
-      };
-      look = of look;
-      kept = of kept;
-      closing = announced s .closing;
-      room = announced s .room;
-      limit = 4294967295;
-      get = λ v w. readingOf (types-held v i) w;
-      put = imageOf;
-      zero-word = 0;
-      blank = Flag false;
-      wellFormed = rowFits t
-    }
+    spec = record {
+      inputs = sym (x .inputs-are) i;
+      streams = sym (x .streams-are) i;
+      equation = λ y. meaning-same (t .types) (p .types) types-held (equationOf t y .expr) i;
+      ops = ops;
+    };
+    look = of look;
+    kept = of kept;
+    closing = announced s .closing;
+    room = announced s .room;
+    limit = 4294967295;
+    get = λ v w. readingOf (types-held v i) w;
+    put = imageOf;
+    zero-word = 0;
+    blank = Flag false;
+    wellFormed = rowFits t;
+  }
 
   for-table : planFor s ≡ table-plan
   unfolding planFor
@@ -106,7 +106,7 @@ module _ {s look kept : List ℕ} {p : Plan} (x : Plans s look kept p) where
       record {
         some = x .ordered .right .keeps v (omega (arith, x .streams-are)) .some;
         start = start;
-        within = omega (arith, part-within (of kept) v (p .streams) l, x .parts-are v l, x .words-sum)
+        within = omega (arith, part-within (of kept) v (p .streams) l, x .parts-are v l, x .words-sum);
       }
 
   pub parsed-held : (y : ℕ) → p .inputs ≤ y → y < p .streams
@@ -117,34 +117,34 @@ module _ {s look kept : List ℕ} {p : Plan} (x : Plans s look kept p) where
       let ts : take (p .streams) (p .types) ≡ t .types = ap (λ (n : ℕ). take n (p .types)) (x .streams-are) ∙ ap (take (streams t)) (x .types-are) ∙ padded-take (t .types) in
       let at : getD (p .starts) y 0 ≡ equationOf t y .start = ap (λ (l : List ℕ). getD l y 0) (x .starts-are) ∙ start-held t y i in
       let e : parse 16 (take (p .streams) (p .types)) s (getD (t .types) y 0) (getD (p .starts) y 0) ≡ good (equationOf t y .expr) (w .end) =
-        ap (λ (l : List ℕ). parse 16 l s (getD (t .types) y 0) (getD (p .starts) y 0)) ts ∙ ap (parse 16 (t .types) s (getD (t .types) y 0)) at ∙ w .parsed in
+      ap (λ (l : List ℕ). parse 16 l s (getD (t .types) y 0) (getD (p .starts) y 0)) ts ∙ ap (parse 16 (t .types) s (getD (t .types) y 0)) at ∙ w .parsed in
       e ∙ ap (good (equationOf t y .expr)) (sym (ap placeBehind e))
 
   -- a turn over a store of n words can go by the plan
   abbrev pub ready : (n : ℕ) → p .words ≤ n → Ready s (p .types) look kept (p .parts) (p .starts) (p .order) (p .inputs) (p .streams) n
   ready n h = record {
-      eqs = λ y. equationOf t y .expr;
-      closing = announced s .closing;
-      room = announced s .room;
-      wellFormed = rowFits t;
-      rank = x .ordered .schedule .rank;
-      few = few-held;
-      announced = held-announced;
-      ordered = record {
-        named = λ i l. omega (arith, x .ordered .inside i (omega (arith, l, x .streams-are)), x .streams-are);
-        ranked = λ i l. x .ordered .back i (omega (arith, l, x .streams-are));
-        back = λ v l. x .ordered .placed v (omega (arith, l, x .streams-are))
-      };
-      fits = omega (arith, x .words-sum, base-total (of kept) (p .streams));
-      part = part-held n h;
-      wanted = λ y. getD (t .types) y 0;
-      behind = λ y. placeBehind (parse 16 (take (p .streams) (p .types)) s (getD (t .types) y 0) (getD (p .starts) y 0));
-      parsed = parsed-held
-    }
+    eqs = λ y. equationOf t y .expr;
+    closing = announced s .closing;
+    room = announced s .room;
+    wellFormed = rowFits t;
+    rank = x .ordered .schedule .rank;
+    few = few-held;
+    announced = held-announced;
+    ordered = record {
+      named = λ i l. omega (arith, x .ordered .inside i (omega (arith, l, x .streams-are)), x .streams-are);
+      ranked = λ i l. x .ordered .back i (omega (arith, l, x .streams-are));
+      back = λ v l. x .ordered .placed v (omega (arith, l, x .streams-are));
+    };
+    fits = omega (arith, x .words-sum, base-total (of kept) (p .streams));
+    part = part-held n h;
+    wanted = λ y. getD (t .types) y 0;
+    behind = λ y. placeBehind (parse 16 (take (p .streams) (p .types)) s (getD (t .types) y 0) (getD (p .starts) y 0));
+    parsed = parsed-held;
+  }
 
   -- and its output has the announced room
   pub room-held : roomFrom (p .roles) (p .streams - p .inputs) (p .inputs) ≡ p .room
   room-held =
       room-of-outputs (p .roles) (λ v. omega (arith, fine .role-is v, roles-held v)) (p .inputs) (p .streams) some-held
-        (λ v l. sym (roles-held v) ∙ fine .input-is-plain v (omega (arith, l, x .inputs-are)))
+      (λ v l. sym (roles-held v) ∙ fine .input-is-plain v (omega (arith, l, x .inputs-are)))
       ∙ sym (x .room-sum)

@@ -41,5 +41,5 @@ module _ (roles : List ℕ) (role-is : (v : ℕ) → getD roles v 0 ≤ 1) where
       let none = total-bound (of roles) inputs 0 (λ v l. omega (arith, plain v l)) in
       let e : inputs + (streams - inputs) ≡ streams = omega arith in
       let all : roomFrom roles (streams - inputs) inputs + 6 * total (of roles) inputs ≡ 10 * (streams - inputs) + 6 * total (of roles) streams =
-        room-from (streams - inputs) inputs ∙ ap (λ (n : ℕ). 10 * (streams - inputs) + 6 * total (of roles) n) e in
+      room-from (streams - inputs) inputs ∙ ap (λ (n : ℕ). 10 * (streams - inputs) + 6 * total (of roles) n) e in
       omega (arith, none, all)

@@ -62,7 +62,7 @@ module _ {s look kept : List ℕ} {r : Vouched} (v : Vouches s look kept r) wher
     unfolding roomBytes
     room-same =
         let all : total (of (r .roles)) (r .streams) ≡ total (λ u. getD (t .roles) u 0) (streams t) =
-          ap (total (of (r .roles))) (v .streams-are) ∙ total-same (of (r .roles)) (λ u. getD (t .roles) u 0) (streams t) (λ u l. role-at u) in
+        ap (total (of (r .roles))) (v .streams-are) ∙ total-same (of (r .roles)) (λ u. getD (t .roles) u 0) (streams t) (λ u l. role-at u) in
         omega (arith, all, fine .outputs, v .inputs-are, v .streams-are)
 
     closing-same : most (of look) (r .streams) ≡ closingTurns t
@@ -75,8 +75,17 @@ module _ {s look kept : List ℕ} {r : Vouched} (v : Vouches s look kept r) wher
     pub planned : {parts : List ℕ} {words room closing : ℕ} → ((u : ℕ) → u < r .streams → getD parts u 0 ≡ total (of kept) u) → words ≡ total (of kept) (r .streams)
         → room ≡ 10 * (r .streams - r .inputs) + 6 * total (of (r .roles)) (r .streams) → closing ≡ most (of look) (r .streams)
         → Plans s look kept (record {
-          ok = true; inputs = r .inputs; streams = r .streams; types = r .types; roles = r .roles; starts = r .starts; parts = parts; order = r .order;
-          words = words; room = room; closing = closing
+          ok = true;
+          inputs = r .inputs;
+          streams = r .streams;
+          types = r .types;
+          roles = r .roles;
+          starts = r .starts;
+          parts = parts;
+          order = r .order;
+          words = words;
+          room = room;
+          closing = closing;
         })
     planned a b c d =
         record {
@@ -97,5 +106,5 @@ module _ {s look kept : List ℕ} {r : Vouched} (v : Vouches s look kept r) wher
           roles-are = v .roles-are;
           starts-are = v .starts-are;
           parts-are = a;
-          ordered = v .ordered
+          ordered = v .ordered;
         }

@@ -52,8 +52,17 @@ fn no_plan() -> Plan
     ensures { λ r. ⌜ r .ok ≡ false ⌝ }
 {
     Plan {
-        ok: false, inputs: 0, streams: 0, types: [0u8; 32], roles: [0u8; 32], starts: [0u16; 32], parts: [0u16; 32], order: [0u8; 32],
-        words: 0, room: 0, closing: 0,
+        ok: false,
+        inputs: 0,
+        streams: 0,
+        types: [0u8; 32],
+        roles: [0u8; 32],
+        starts: [0u16; 32],
+        parts: [0u16; 32],
+        order: [0u8; 32],
+        words: 0,
+        room: 0,
+        closing: 0,
     }
 }
 
@@ -75,8 +84,17 @@ pub fn plan_of(table: &[u8], look: [u16; 32], kept: [u16; 32]) -> Plan
         let room = room_of(&roles, inputs, streams);
         let closing = announce::largest(&look, streams);
         Plan {
-            ok: true, inputs: inputs, streams: streams, types: types, roles: roles, starts: starts, parts: parts, order: order,
-            words: words, room: room, closing: closing,
+            ok: true,
+            inputs: inputs,
+            streams: streams,
+            types: types,
+            roles: roles,
+            starts: starts,
+            parts: parts,
+            order: order,
+            words: words,
+            room: room,
+            closing: closing,
         }
     } else {
         no_plan()

@@ -17,7 +17,7 @@ slice-aggregate-row c =
 put-answer-requires : tie.Need-put-answer-requires
 put-answer-requires c κs =
     let e : length (c .before .before .before .before .before .row .last .1 .1 .1 .1 .0) ≡ 496 = search needs in
-    let h : (c .before .before .before .before .before .row .result .count) ≤ 496 = row-count _ _ _ _ _ (c .before .before .before .before .before .row .ensures) in
+    let h : (c .before .before .before .before .before .row .result .count) ≤ 496 = row-count _ _ _ _ _ e (c .before .before .before .before .before .row .ensures) in
     omega arith
 
 returns : tie.Need-returns

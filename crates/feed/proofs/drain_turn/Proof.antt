@@ -11,7 +11,7 @@ use Rattle.feed.proofs.drain_turn.Tie as tie
 put-answer-requires : tie.Need-put-answer-requires
 put-answer-requires c κs =
     let e : length (c .before .before .before .before .before .drain .last .1 .1 .1 .0) ≡ 496 = search needs in
-    let h : (c .before .before .before .before .before .drain .result .count) ≤ 496 = drain-count _ _ _ _ (c .before .before .before .before .before .drain .ensures) in
+    let h : (c .before .before .before .before .before .drain .result .count) ≤ 496 = drain-count _ _ _ _ e (c .before .before .before .before .before .drain .ensures) in
     omega arith
 
 returns : tie.Need-returns

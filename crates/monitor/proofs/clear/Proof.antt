@@ -24,10 +24,10 @@ slice-write-store c = omega (arith, c .before .loop .inv .1, c .before .before .
 
 loop-again : tie.Need-loop-again Inv-loop μ-loop
 loop-again c =
-    (omega arith, length-set (c .before .loop .store) (c .before .loop .i) 0 ∙ c .before .loop .inv .1, cleared-step (c .before .before .args .store .now) (c .before .loop .i) (omega (arith, c .before .before .pre, c .loop-test .taken)) (c .before .loop .inv .2))
+    (omega arith, length-set (c .before .loop .store) (c .before .loop .word) 0 ∙ c .before .loop .inv .1, cleared-step (c .before .before .args .store .now) (c .before .loop .word) (omega (arith, c .before .before .pre, c .loop-test .taken)) (c .before .loop .inv .2))
 
 returns : tie.Need-returns Inv-loop μ-loop
-returns c = let e : c .before .loop .i ≡ c .before .before .args .words = omega (arith, c .before .loop .inv .0, c .loop-test .left) in rw (← e) (c .before .loop .inv .2)
+returns c = let e : c .before .loop .word ≡ c .before .before .args .words = omega (arith, c .before .loop .inv .0, c .loop-test .left) in rw (← e) (c .before .loop .inv .2)
 
 pub clear-spec : {M : Type 1} → statement M
 clear-spec =

@@ -7,9 +7,6 @@ use Rattle.monitor.proofs.Refusals.{foreign-10, foreign-table}
 use Rattle.monitor.proofs.foreign.Statement.{statement}
 use Rattle.monitor.proofs.foreign.Tie as tie
 
-check-requires : tie.Need-check-requires
-check-requires c κs = ?
-
 returns : tie.Need-returns
 returns c = foreign-10 _ (c .before .before .check .ensures) (c .if1 .taken)
 
@@ -17,4 +14,4 @@ returns-2 : tie.Need-returns-2
 returns-2 c = foreign-table _ (c .before .before .check .ensures) (c .if1 .left)
 
 pub foreign-spec : {M : Type 1} → statement M
-foreign-spec = tie.close (tie.spec check-requires returns returns-2)
+foreign-spec = tie.close (tie.spec (λ c κs. tt) returns returns-2)

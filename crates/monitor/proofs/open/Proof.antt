@@ -7,9 +7,6 @@ use Rattle.monitor.proofs.Leaving.{opening-table, opening-short, openin
 use Rattle.monitor.proofs.open.Statement.{statement}
 use Rattle.monitor.proofs.open.Tie as tie
 
-check-requires : tie.Need-check-requires
-check-requires c κs = ?
-
 returns : tie.Need-returns
 returns c = opening-table (c .before .before .before .before .args .table .now) (c .before .before .before .before .args .store .now) (c .before .check .ensures) (c .if1 .taken)
 
@@ -20,4 +17,4 @@ returns-3 : tie.Need-returns-3
 returns-3 c = opening-taken (c .before .before .before .before .before .before .before .before .before .before .before .args .table .now) (c .before .before .before .before .before .before .before .before .before .before .before .args .store .now) (c .before .before .before .before .before .before .before .before .check .ensures) (c .before .before .before .before .before .before .before .if1 .left) (c .before .before .before .before .before .before .if2 .left) (c .before .before .before .before .clear .ensures)
 
 pub open-spec : {M : Type 1} → statement M
-open-spec = tie.close (tie.spec check-requires returns returns-2 (λ c κs. search needs) (λ c. search needs) returns-3)
+open-spec = tie.close (tie.spec (λ c κs. tt) returns returns-2 (λ c κs. search needs) (λ c. search needs) returns-3)

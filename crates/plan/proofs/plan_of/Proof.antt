@@ -31,4 +31,4 @@ returns-2 c = unplanned (c .before .before .before .before .before .before .args
 pub plan-of-spec : {M : Type 1} → statement M
 plan-of-spec =
     tie.close
-    (tie.spec (λ c κs. search needs) parts-of-requires sum-requires room-of-requires largest-requires (λ c κs. search needs) returns returns-2)
+    (tie.spec (λ c κs. tt) parts-of-requires sum-requires room-of-requires largest-requires (λ c κs. tt) returns returns-2)

@@ -23,4 +23,4 @@ returns-3 : tie.Need-returns-3
 returns-3 c = close-foreign (c .before .before .before .before .before .before .args .table .now) (c .before .before .before .before .before .before .args .self) (unplanned (c .before .before .before .before .before .before .args .table .now) (c .before .before .before .before .before .before .args .self) (c .before .before .plan-of .result) (c .before .if1 .left) (c .before .before .plan-of .ensures)) (c .foreign .ensures)
 
 pub close-spec : {M : Type 1} → statement M
-close-spec = tie.close (tie.spec (λ c κs. search needs) (λ c κs. search needs) (λ c κs. search needs) returns (λ c κs. search needs) returns-2 returns-3)
+close-spec = tie.close (tie.spec (λ c κs. tt) (λ c κs. tt) (λ c κs. tt) returns (λ c κs. tt) returns-2 returns-3)

@@ -17,4 +17,4 @@ returns-3 : tie.Need-returns-3
 returns-3 c = close-10 _ _ (sym (c .before .agrees .ensures) ∙ c .if1 .left)
 
 pub close-fault-spec : {M : Type 1} → statement M
-close-fault-spec = tie.close (tie.spec (λ c κs. search needs) (λ c κs. search needs) returns returns-2 returns-3)
+close-fault-spec = tie.close (tie.spec (λ c κs. tt) (λ c κs. tt) returns returns-2 returns-3)

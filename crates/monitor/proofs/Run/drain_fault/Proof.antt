@@ -23,4 +23,4 @@ returns-5 : tie.Need-returns-5
 returns-5 c = drain-10 _ _ _ _ _ _ (sym (c .before .agrees .ensures) ∙ c .if1 .left)
 
 pub drain-fault-spec : {M : Type 1} → statement M
-drain-fault-spec = tie.close (tie.spec (λ c κs. search needs) returns (λ c κs. search needs) returns-2 returns-3 returns-4 returns-5)
+drain-fault-spec = tie.close (tie.spec (λ c κs. tt) returns (λ c κs. tt) returns-2 returns-3 returns-4 returns-5)

@@ -42,15 +42,15 @@ pub row-spec : {M : Type 1} → statement M
 row-spec =
     tie.close
     (tie.spec
-    (λ c κs. search needs)
+    (λ c κs. tt)
     row-fault-requires
-    (λ c κs. search needs)
+    (λ c κs. tt)
     (λ c. search needs)
     turn-out-requires
     add-t30
     (λ c. search needs)
     (λ c. search needs)
     returns
-    (λ c κs. search needs)
+    (λ c κs. tt)
     returns-2
     returns-3)

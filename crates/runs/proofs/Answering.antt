@@ -18,17 +18,17 @@ use Rattle.lola.specs.Run.{Rec, Given, Call, words, answer, answered, accepts, 
 use Rattle.output.specs.Encoding.{encode, overwritten, Emitted}
 use Rattle.announce.specs.Announced.{announced}
 use Rattle.plan.specs.PlanFor.{tableFor, firstBad, planFor}
 use Rattle.monitor.specs.declared.Phase.{Phase}
 use Rattle.monitor.specs.declared.Phase.the-variants.{Reading, Draining, Over}
 use Rattle.monitor.specs.declared.Run.{Run}
 use Rattle.monitor.specs.declared.Fault.{Fault}
 use Rattle.monitor.specs.declared.Answer.{Answer}
 use Rattle.monitor.specs.Turns.{bytesOn}
 use Rattle.monitor.specs.Refusals.{fault, fine, openFault, refuseIf, afterTable, eqbs, phaseAgrees, recordAgrees, ofTable, isReading, isDraining, closeRefusal, closeFault, rowRefusal, rowFault, drainRefusal, drainFault}
 use Rattle.monitor.specs.Calls.{After, refusal, acceptance, unless, openCall, rowCall, closedPhase, closeCall, drainedPhase, drainCall, Leaves, Opens}
 use Rattle.monitor.proofs.Refusals.{table-passed, eqbs-same, open-0}
-use Rattle.monitor.specs.Runs.{phaseOf, recOf, Numbered, bytesOf, Agrees, Is, Begins}
-use Rattle.monitor.proofs.Words.{plan-words}
+use Rattle.runs.specs.Runs.{phaseOf, recOf, Numbered, bytesOf, Agrees, Is, Begins}
+use Rattle.runs.proofs.Words.{plan-words}
 
 leb-not : (a b : ℕ) → leb a b ≡ not (ltb b a)
 leb-not a b = go (decLt b a)
@@ -58,8 +58,8 @@ draining-same Over = refl
 
 -- the refusals, test by test
 row-tests : (t1 t2 t3 t4 t5 t6 t7 : Bool) (b : ℕ) →
-  t1 && (not t2 && (t3 && (not t4 && ((t5 && not t6) && not t7))))
-  ≡ eqb (refuseIf (not t1) 10 0 (refuseIf t2 11 0 (refuseIf (not t3) 12 0 (refuseIf t4 13 0 (refuseIf (not t5) 14 0 (refuseIf t6 15 b (refuseIf t7 16 0 fine)))))) .number) 0
+    t1 && (not t2 && (t3 && (not t4 && ((t5 && not t6) && not t7))))
+    ≡ eqb (refuseIf (not t1) 10 0 (refuseIf t2 11 0 (refuseIf (not t3) 12 0 (refuseIf t4 13 0 (refuseIf (not t5) 14 0 (refuseIf t6 15 b (refuseIf t7 16 0 fine)))))) .number) 0
 row-tests false t2 t3 t4 t5 t6 t7 b = refl
 row-tests true true t3 t4 t5 t6 t7 b = refl
 row-tests true false false t4 t5 t6 t7 b = refl
@@ -97,7 +97,7 @@ module _ {s : List ℕ} (r : Run) (x : Numbered s r) where
   row-accepts ws st space =
       rw (table-passed s _ (x .accepted), of-same, plan-words s (x .accepted), leb-not (announced s .words) (length st), reading-same (r .phase), ltb-not (r .rows) 4294967295, leb-not (announced s .room) space)
       (row-tests (ofTable r (announced s)) (ltb (length st) (announced s .words)) (isReading (r .phase)) (leb 4294967295 (r .rows)) (eqb (length ws) (tableFor s .inputs))
-        (ltb (firstBad (tableFor s .types) ws (tableFor s .inputs) 0) (tableFor s .inputs)) (ltb space (announced s .room)) (firstBad (tableFor s .types) ws (tableFor s .inputs) 0))
+      (ltb (firstBad (tableFor s .types) ws (tableFor s .inputs) 0) (tableFor s .inputs)) (ltb space (announced s .room)) (firstBad (tableFor s .types) ws (tableFor s .inputs) 0))
 
   drain-accepts : (st : List ℕ) (space : ℕ) → accepts (planFor s) (run.drain space) (recOf r) st ≡ eqb (drainFault s r (length st) space .number) 0
   unfolding drainRefusal recOf planFor
@@ -125,7 +125,7 @@ module _ {s : List ℕ} (r : Run) (x : Numbered s r) where
           record-is = b;
           store-is = c;
           output-is = record { counted = ap length d; written = ap (λ (l : List ℕ). overwritten l out) d };
-          numbers-stay = same
+          numbers-stay = same;
         }
     by-fault false e = refused-agrees st out f e
 
@@ -141,10 +141,10 @@ module _ {s : List ℕ} (r : Run) (x : Numbered s r) where
   row-call ws st out =
       rw (row-accepts ws st (length out))
       (by-fault st out (rowFault s r (length st) ws (length out)) (answered (planFor s) (run.row ws (length out)) (recOf r) st) (record { look = r .look; kept = r .kept; rows = r .rows + 1; phase = Reading; done = 0 })
-        (storeAfter (planFor s) (r .rows + 1) (r .rows) ws st) (bytesOn s (r .rows + 1) (r .rows) ws st) refl row-after
-        (ap (λ (n : ℕ). storeAfter (planFor s) n (r .rows) ws st) (add-one (r .rows)))
-        (ap (λ (n : ℕ). bytesOf s (givenOn (planFor s) n (r .rows) ws st)) (add-one (r .rows)))
-        (refl, refl) _ refl)
+      (storeAfter (planFor s) (r .rows + 1) (r .rows) ws st) (bytesOn s (r .rows + 1) (r .rows) ws st) refl row-after
+      (ap (λ (n : ℕ). storeAfter (planFor s) n (r .rows) ws st) (add-one (r .rows)))
+      (ap (λ (n : ℕ). bytesOf s (givenOn (planFor s) n (r .rows) ws st)) (add-one (r .rows)))
+      (refl, refl) _ refl)
 
   -- every row call answers as the theory does
   pub row-is : (ws st out : List ℕ) {a : Answer} {st1 out1 : List ℕ} → Leaves (rowCall s r ws st out) a st1 out1 → Is s (run.row ws (length out)) r st out a st1 out1
@@ -167,8 +167,8 @@ module _ {s : List ℕ} (r : Run) (x : Numbered s r) where
   drain-call st out =
       rw (drain-accepts st (length out))
       (by-fault st out (drainFault s r (length st) (length out)) (answered (planFor s) (run.drain (length out)) (recOf r) st)
-        (record { look = r .look; kept = r .kept; rows = r .rows; phase = drainedPhase (r .done + 1) (announced s .closing); done = r .done + 1 })
-        (storeAfter (planFor s) (r .rows) (r .rows + r .done) [] st) (bytesOn s (r .rows) (r .rows + r .done) [] st) refl drain-after refl refl (refl, refl) _ refl)
+      (record { look = r .look; kept = r .kept; rows = r .rows; phase = drainedPhase (r .done + 1) (announced s .closing); done = r .done + 1 })
+      (storeAfter (planFor s) (r .rows) (r .rows + r .done) [] st) (bytesOn s (r .rows) (r .rows + r .done) [] st) refl drain-after refl refl (refl, refl) _ refl)
 
   pub drain-is : (st out : List ℕ) {a : Answer} {st1 out1 : List ℕ} → Leaves (drainCall s r st out) a st1 out1 → Is s (run.drain (length out)) r st out a st1 out1
   drain-is st out l = leaves-is l (drain-call st out)
@@ -189,14 +189,14 @@ module _ {s : List ℕ} (r : Run) (x : Numbered s r) where
     where
       go : (t : Bool) → eqb (closeFault s r .number) 0 ≡ t
           → Agrees s (cond t (answered (planFor s) run.close (recOf r) st) (refuse (planFor s) (recOf r) st)) r []
-            (cond t (acceptance (record { look = r .look; kept = r .kept; rows = r .rows; phase = closedPhase (r .rows) (announced s .closing); done = 0 }) [] [] []) (refusal r (closeFault s r) [] []) .answer) st []
+          (cond t (acceptance (record { look = r .look; kept = r .kept; rows = r .rows; phase = closedPhase (r .rows) (announced s .closing); done = 0 }) [] [] []) (refusal r (closeFault s r) [] []) .answer) st []
       go true h =
           record {
             taken-is = refl;
             record-is = λ i. record { rows = r .rows; phase = closed-same (r .rows) (announced s .closing) i; done = 0 };
             store-is = refl;
             output-is = record { counted = refl; written = refl };
-            numbers-stay = (refl, refl)
+            numbers-stay = (refl, refl);
           }
       go false h = refused-agrees st [] (closeFault s r) h
 
@@ -212,5 +212,5 @@ open-is s st {a} {st1} e h o =
       taken-is = ap (λ (z : Answer). z .number) g;
       numbered = record { accepted = e; look-is = ap (λ (z : Answer). z .run .look) g; kept-is = ap (λ (z : Answer). z .run .kept) g };
       record-is = ap (λ (z : Answer). recOf (z .run)) g;
-      store-is = o .store-is ∙ ap (λ (z : After). z .store) y ∙ ap (λ (n : ℕ). replicate n 0 ++ drop n st) (sym w)
+      store-is = o .store-is ∙ ap (λ (z : After). z .store) y ∙ ap (λ (n : ℕ). replicate n 0 ++ drop n st) (sym w);
     }

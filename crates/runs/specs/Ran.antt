@@ -9,10 +9,10 @@ use Rattle.lola.specs.Run as run
 use Rattle.lola.specs.Run.{Given, Call}
 use Rattle.lola.specs.Demands.{Demand3}
 use Rattle.plan.specs.PlanFor.{planFor}
 use Rattle.monitor.specs.declared.Run.{Run}
 use Rattle.monitor.specs.declared.Answer.{Answer}
 use Rattle.monitor.specs.Calls.{openCall, rowCall, closeCall, drainCall, Leaves, Opens}
-use Rattle.monitor.specs.Runs.{recOf, bytesOf}
+use Rattle.runs.specs.Runs.{recOf, bytesOf}
 
 -- On the bytes s and the store st₀: the accepted calls, the last first; the record and the store as they are now; the bytes of each turn.
 -- A refused call may bring any bytes, any record and any words.

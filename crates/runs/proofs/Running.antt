@@ -1,6 +1,6 @@
 -- A run of the code is a run of the theory, and so demand 3 holds of it.
 -- Assumes nothing.
-use Prim.Native.Nat.{ℕ, _≤_}
+use Prim.Native.Nat.{ℕ, _+_, _≤_}
 use mathlib.Core.Path.{_≡_, refl, sym, ap, subst, _∙_}
 use mathlib.Core.Bool.{Bool, true, false, cond, not}
 use mathlib.Core.List.{List, [], _∷_, _++_, map, append-nil}
@@ -11,22 +11,24 @@ use lib.ListN.{length, take, drop}
 use lib.Seq.{take-append-seam}
 use Rattle.value.specs.declared.Value.{Value}
 use Rattle.lola.specs.Run as run
-use Rattle.lola.specs.Run.{Rec, Given, Call, words, answer}
+use Rattle.lola.specs.Run.{Rec, Given, Call, words, answer, storeAfter}
 use Rattle.lola.proofs.Demands.{demand3}
 use Rattle.meaning.specs.Plans.{FitsIn}
 use Rattle.output.specs.Encoding.{overwritten, Emitted}
 use Rattle.announce.specs.Announced.{announced}
 use Rattle.plan.specs.PlanFor.{planFor}
 use Rattle.plan.proofs.Accepted.{PlanAnnounced, plan-announced}
+use Rattle.monitor.specs.declared.Phase.the-variants.{Reading}
 use Rattle.monitor.specs.declared.Run.{Run}
 use Rattle.monitor.specs.declared.Fault.{Fault}
 use Rattle.monitor.specs.declared.Answer.{Answer}
+use Rattle.monitor.specs.Turns.{bytesOn}
 use Rattle.monitor.specs.Refusals.{fault, fine, refuseIf, afterTable, openFault, rowFault, drainFault}
-use Rattle.monitor.specs.Calls.{After, refusal, acceptance, zeroRun, openCall, rowCall, closeCall, drainCall, Leaves, Opens}
-use Rattle.monitor.specs.Runs.{recOf, Numbered, bytesOf, Agrees, Is, Begins}
-use Rattle.monitor.specs.Ran.{Ran, opened, row, closed, drained, refused-row, refused-drain, CodeMeets}
-use Rattle.monitor.proofs.Words.{plan-words}
-use Rattle.monitor.proofs.Answering.{row-is, drain-is, close-is, open-is}
+use Rattle.monitor.specs.Calls.{After, refusal, acceptance, zeroRun, openCall, rowCall, closeCall, drainedPhase, drainCall, Leaves, Opens}
+use Rattle.runs.specs.Runs.{recOf, Numbered, bytesOf, Agrees, Is, Begins}
+use Rattle.runs.specs.Ran.{Ran, opened, row, closed, drained, refused-row, refused-drain, CodeMeets}
+use Rattle.runs.proofs.Words.{plan-words}
+use Rattle.runs.proofs.Answering.{row-is, drain-is, close-is, open-is}
 
 -- ---- refused calls leave the store
 
@@ -37,11 +39,16 @@ module _ (f : Fault) (r next : Run) (st out st1 bytes : List ℕ) where
 
 row-leaves-store : (s : List ℕ) (r : Run) (ws st out : List ℕ) → (rowCall s r ws st out .answer .number ≡ 0 → ⊥) → rowCall s r ws st out .store ≡ st
 unfolding rowCall
-row-leaves-store s r ws st out n = refused-by (rowFault s r (length st) ws (length out)) r _ st out _ _ (eqb (rowFault s r (length st) ws (length out) .number) 0) n
+row-leaves-store s r ws st out n =
+    refused-by (rowFault s r (length st) ws (length out)) r (record { look = r .look; kept = r .kept; rows = r .rows + 1; phase = Reading; done = 0 }) st out
+    (storeAfter (planFor s) (r .rows + 1) (r .rows) ws st) (bytesOn s (r .rows + 1) (r .rows) ws st) (eqb (rowFault s r (length st) ws (length out) .number) 0) n
 
 drain-leaves-store : (s : List ℕ) (r : Run) (st out : List ℕ) → (drainCall s r st out .answer .number ≡ 0 → ⊥) → drainCall s r st out .store ≡ st
 unfolding drainCall
-drain-leaves-store s r st out n = refused-by (drainFault s r (length st) (length out)) r _ st out _ _ (eqb (drainFault s r (length st) (length out) .number) 0) n
+drain-leaves-store s r st out n =
+    refused-by (drainFault s r (length st) (length out)) r
+    (record { look = r .look; kept = r .kept; rows = r .rows; phase = drainedPhase (r .done + 1) (announced s .closing); done = r .done + 1 }) st out
+    (storeAfter (planFor s) (r .rows) (r .rows + r .done) [] st) (bytesOn s (r .rows) (r .rows + r .done) [] st) (eqb (drainFault s r (length st) (length out) .number) 0) n
 
 left-store : {y : After} {a : Answer} {st st1 out1 : List ℕ} → Leaves y a st1 out1 → (a .number ≡ 0 → ⊥) → ((y .answer .number ≡ 0 → ⊥) → y .store ≡ st) → st1 ≡ st
 left-store l n h = l .store-is ∙ h (λ e. n (ap (λ (z : Answer). z .number) (l .answer-is) ∙ e))
@@ -87,7 +94,7 @@ module _ (s st₀ : List ℕ) where
   as-run : {ks : List (Call ℕ)} {c d : Rec} {st st1 : List ℕ} {gs : List (List (Given Value))} → c ≡ d → st1 ≡ st → run.Run (planFor s) st₀ ks c st gs → run.Run (planFor s) st₀ ks d st1 gs
   as-run {ks} {gs = gs} e g x = rw (← e, g) x
 
-  still-numbered : {r : Run} {a : Answer} → Numbered s r → (a .run .look ≡ r .look) × (a .run .kept ≡ r .kept) → Numbered s (a .run)
+  still-numbered : {r next : Run} → Numbered s r → (next .look ≡ r .look) × (next .kept ≡ r .kept) → Numbered s next
   still-numbered n q = record { accepted = n .accepted; look-is = q .0 ∙ n .look-is; kept-is = q .1 ∙ n .kept-is }
 
   follows : {ks : List (Call ℕ)} {r : Run} {st : List ℕ} {log : List (List ℕ)} → Ran s st₀ ks r st log → Follows s st₀ ks r st log
@@ -103,7 +110,7 @@ module _ (s st₀ : List ℕ) where
         given = f .given ++ (answer (planFor s) (run.row ws (length out)) (recOf r) st .given ∷ []);
         bytes-are = (λ j. f .bytes-are j ++ (turn-bytes (i .output-is) j ∷ [])) ∙ sym (map-more s (f .given) (answer (planFor s) (run.row ws (length out)) (recOf r) st .given));
         theory = as-run (i .record-is) (i .store-is) (run.taken (f .theory) (run.row ws (length out)) (i .taken-is ∙ eq-eqb _ _ n));
-        numbered = still-numbered (f .numbered) (i .numbers-stay)
+        numbered = still-numbered (f .numbered) (i .numbers-stay);
       }
   follows (drained {r = r} {st = st} x out l n) =
       let f = follows x in
@@ -112,7 +119,7 @@ module _ (s st₀ : List ℕ) where
         given = f .given ++ (answer (planFor s) (run.drain (length out)) (recOf r) st .given ∷ []);
         bytes-are = (λ j. f .bytes-are j ++ (turn-bytes (i .output-is) j ∷ [])) ∙ sym (map-more s (f .given) (answer (planFor s) (run.drain (length out)) (recOf r) st .given));
         theory = as-run (i .record-is) (i .store-is) (run.taken (f .theory) (run.drain (length out)) (i .taken-is ∙ eq-eqb _ _ n));
-        numbered = still-numbered (f .numbered) (i .numbers-stay)
+        numbered = still-numbered (f .numbered) (i .numbers-stay);
       }
   follows (closed {r = r} {st = st} x e n) =
       let f = follows x in
@@ -121,7 +128,7 @@ module _ (s st₀ : List ℕ) where
         given = f .given;
         bytes-are = f .bytes-are;
         theory = rw append-nil at (as-run (i .record-is) (i .store-is) (run.taken (f .theory) run.close (i .taken-is ∙ eq-eqb _ _ n)));
-        numbered = still-numbered (f .numbered) (i .numbers-stay)
+        numbered = still-numbered (f .numbered) (i .numbers-stay);
       }
   follows (refused-row {st = st} x q r′ ws out l n) =
       let f = follows x in
