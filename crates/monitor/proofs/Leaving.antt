@@ -15,19 +15,23 @@ use Rattle.monitor.specs.declared.Phase.the-variants.{Reading}
 use Rattle.monitor.specs.declared.Run.{Run}
 use Rattle.monitor.specs.declared.Fault.{Fault}
 use Rattle.monitor.specs.declared.Answer.{Answer}
-use Rattle.monitor.specs.Turns.{bytesOn, Turned}
-use Rattle.monitor.specs.Refusals.{fault, fine, afterTable, openFault, closeRefusal, closeFault, rowFault, drainFault, agreesWith, rowTests, drainTests}
-use Rattle.monitor.specs.Calls.{After, refusal, acceptance, unless, zeroRun, openCall, rowCall, closedPhase, closeCall, drainedPhase, drainCall, Leaves, Opens}
+use Rattle.monitor.specs.Turns.{Turned}
+use Rattle.monitor.specs.Refusals.{fault, afterTable, openFault, closeFault, rowFault, drainFault}
+use Rattle.monitor.specs.Calls.{After, refusedWith, refusal, acceptance, zeroRun, openCall, rowCall, closedPhase, closeCall, drainedPhase, drainCall, Leaves, Opens}
 use Rattle.monitor.proofs.Refusals.{open-refused, open-11, open-0, foreign-number, foreign-row, foreign-drain, foreign-close}
-
-abbrev pub refusedWith : Run → Fault → Answer
-refusedWith r f = record { run = r; number = f .number; place = f .place; count = 0 }
 
 unless-refused : {m : ℕ} (a b : After) → (m ≡ 0 → ⊥) → cond (eqb m 0) b a ≡ a
 unless-refused a b n = rw (ne-eqb _ _ n)
 
 unless-accepted : {m : ℕ} (a b : After) → m ≡ 0 → cond (eqb m 0) b a ≡ b
 unless-accepted a b e = rw (eq-eqb _ _ e)
+
+-- an answer found another way
+pub leaves-by : {y : After} {a b : Answer} {st out : List ℕ} → a ≡ b → Leaves y b st out → Leaves y a st out
+leaves-by e l = record { answer-is = e ∙ l .answer-is; store-is = l .store-is; output-is = l .output-is }
+
+pub opens-by : {y : After} {a b : Answer} {st : List ℕ} → a ≡ b → Opens y b st → Opens y a st
+opens-by e l = record { answer-is = e ∙ l .answer-is; store-is = l .store-is }
 
 leaves-as : {x y : After} {a : Answer} {st out : List ℕ} → x ≡ y → Leaves y a st out → Leaves x a st out
 leaves-as e l = rw e l

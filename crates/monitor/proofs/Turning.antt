@@ -1,6 +1,6 @@
 -- A turn with its output: what the store holds of the due values after it is what is given, as bytes.
 -- Assumes nothing.
-use Prim.Native.Nat.{ℕ, zero, suc, _+_, _-_, _%_, _<_, _≤_}
+use Prim.Native.Nat.{ℕ, zero, suc, _-_, _%_, _<_, _≤_}
 use mathlib.Core.Path.{_≡_, refl, sym, ap, _∙_}
 use mathlib.Core.Bool.{Bool, true, false, cond, not, _&&_}
 use mathlib.Core.List.{List, [], _∷_, _++_, map}
@@ -21,7 +21,7 @@ use Rattle.evaluate.specs.Turns.{Turns}
 use Rattle.output.specs.Encoding.{valueRecord, triggerRecord, recordOf, encode, wordOn, outputOf, Emitted}
 use Rattle.certificate.specs.Certificate.{of}
 use Rattle.plan.specs.declared.Plan.{Plan}
-use Rattle.plan.specs.PlanFor.{tableIn, tableFor, planFor}
+use Rattle.plan.specs.PlanFor.{tableIn, tableFor}
 use Rattle.plan.specs.Planning.{Plans}
 use Rattle.plan.proofs.Held.{roles-held, some-held, held-plan, plan-held, part-held, ready}
 use Rattle.monitor.specs.Turns.{inWords, bytesOn, Turned}

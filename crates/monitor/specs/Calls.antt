@@ -24,8 +24,11 @@ pub record After : Type 0 where
   pub output : List ℕ
 
 -- "A refusal hands back the record it got [..], writes 0 bytes, and leaves store and output untouched."
+abbrev pub refusedWith : Run → Fault → Answer
+refusedWith r f = record { run = r; number = f .number; place = f .place; count = 0 }
+
 abbrev pub refusal : Run → Fault → (st out : List ℕ) → After
-refusal r f st out = record { answer = record { run = r; number = f .number; place = f .place; count = 0 }; store = st; output = out }
+refusal r f st out = record { answer = refusedWith r f; store = st; output = out }
 
 -- "An accepted call answers number 0 and place 0."
 abbrev pub acceptance : Run → (st : List ℕ) (bytes out : List ℕ) → After

@@ -3,13 +3,13 @@
 ghost use mathlib.Core.Path.{_≡_};
 ghost use mathlib.Core.Bool.{true};
 ghost use mathlib.Core.List.{_++_};
-ghost use Prim.Native.Nat.{ℕ, _+_, _≤_, _<_, _^_};
+ghost use Prim.Native.Nat.{_+_, _≤_, _<_, _^_};
 ghost use lib.ListN.{length, drop, replicate};
 ghost use Rattle.plan.specs.PlanFor.{firstBad};
 ghost use Rattle.plan.specs.Planning.{Plans};
 ghost use Rattle.monitor.specs.Turns.{Turned};
-ghost use Rattle.monitor.specs.Refusals.{fault, fine, refuseIf, afterTable, recordAgrees, isReading, isDraining, openFault, closeRefusal, agreesWith, rowTests, drainTests};
-ghost use Rattle.monitor.specs.Calls.{closedPhase, drainedPhase, openCall, rowCall, closeCall, drainCall, Leaves, Opens};
+ghost use Rattle.monitor.specs.Refusals.{fault, afterTable, recordAgrees, isReading, isDraining, closeRefusal, rowTests, drainTests};
+ghost use Rattle.monitor.specs.Calls.{refusedWith, zeroRun, closedPhase, drainedPhase, openCall, rowCall, closeCall, drainCall, Leaves, Opens};
 use plan::Plan;
 
 pub enum Phase {
@@ -45,6 +45,46 @@ fn wide(x: u32) -> u64
     ensures { λ r. ⌜ (r ≡ x) × (r < 2 ^ 32) ⌝ }
 {
     x as u64
+}
+
+fn fault_of(number: u8, place: usize) -> Fault
+    ensures { λ r. ⌜ r ≡ fault number place ⌝ }
+{
+    Fault {
+        number: number,
+        place: place,
+    }
+}
+
+// "A refusal hands back the record it got [..], writes 0 bytes".
+fn refused(run: Run, number: u8, place: usize) -> Answer
+    ensures { λ r. ⌜ r ≡ refusedWith run (fault number place) ⌝ }
+{
+    Answer {
+        run: run,
+        number: number,
+        place: place,
+        count: 0,
+    }
+}
+
+// "the check and opening give an all-zero one, phase reading".
+fn unopened(number: u8, place: usize) -> Answer
+    ensures { λ r. ⌜ r ≡ refusedWith zeroRun (fault number place) ⌝ }
+{
+    let run = Run {
+        look: [0u16; 32],
+        kept: [0u16; 32],
+        rows: 0,
+        phase: Phase::Reading,
+        done: 0,
+    };
+    Answer {
+        run: run,
+        number: number,
+        place: place,
+        count: 0,
+    }
 }
 
 // Whether the rows are within the limit, which is the largest number of their type, and the phase agrees.
@@ -105,15 +145,9 @@ fn foreign(table: &[u8]) -> Fault
 {
     let c = announce::check(table);
     if c.number == 0 {
-        Fault {
-            number: 10,
-            place: 0,
-        }
+        fault_of(10, 0)
     } else {
-        Fault {
-            number: c.number,
-            place: c.place,
-        }
+        fault_of(c.number, c.place)
     }
 }
 
@@ -189,34 +223,10 @@ pub fn open(table: &[u8], store: &mut [u32]) -> Answer
     let place = c.place;
     let words = c.words;
     if number != 0 {
-        let run = Run {
-            look: [0u16; 32],
-            kept: [0u16; 32],
-            rows: 0,
-            phase: Phase::Reading,
-            done: 0,
-        };
-        return Answer {
-            run: run,
-            number: number,
-            place: place,
-            count: 0,
-        };
+        return unopened(number, place);
     }
     if store.len() < words {
-        let run = Run {
-            look: [0u16; 32],
-            kept: [0u16; 32],
-            rows: 0,
-            phase: Phase::Reading,
-            done: 0,
-        };
-        return Answer {
-            run: run,
-            number: 11,
-            place: 0,
-            count: 0,
-        };
+        return unopened(11, 0);
     }
     clear(store, words);
     let look = c.look;
@@ -247,53 +257,29 @@ impl Run {
             let types = plan.types;
             let inputs = plan.inputs;
             if lent < plan.words {
-                return Fault {
-                    number: 11,
-                    place: 0,
-                };
+                return fault_of(11, 0);
             }
             if reading(phase) {
                 if 4294967295 <= self.rows {
-                    return Fault {
-                        number: 13,
-                        place: 0,
-                    };
+                    return fault_of(13, 0);
                 }
                 if row.len() == inputs {
                     let bad = first_bad(row, types, inputs);
                     if bad < inputs {
-                        return Fault {
-                            number: 15,
-                            place: bad,
-                        };
+                        return fault_of(15, bad);
                     }
                     if space < plan.room {
-                        return Fault {
-                            number: 16,
-                            place: 0,
-                        };
+                        return fault_of(16, 0);
                     }
-                    Fault {
-                        number: 0,
-                        place: 0,
-                    }
+                    fault_of(0, 0)
                 } else {
-                    Fault {
-                        number: 14,
-                        place: 0,
-                    }
+                    fault_of(14, 0)
                 }
             } else {
-                Fault {
-                    number: 12,
-                    place: 0,
-                }
+                fault_of(12, 0)
             }
         } else {
-            Fault {
-                number: 10,
-                place: 0,
-            }
+            fault_of(10, 0)
         }
     }
 
@@ -323,20 +309,10 @@ impl Run {
                     count: count,
                 };
             }
-            Answer {
-                run: self,
-                number: f.number,
-                place: f.place,
-                count: 0,
-            }
+            refused(self, f.number, f.place)
         } else {
             let f = foreign(table);
-            Answer {
-                run: self,
-                number: f.number,
-                place: f.place,
-                count: 0,
-            }
+            refused(self, f.number, f.place)
         }
     }
 }
@@ -378,21 +354,12 @@ impl Run {
         let phase = self.phase;
         if agrees(phase, self.rows, self.done, closing) {
             if reading(phase) {
-                Fault {
-                    number: 0,
-                    place: 0,
-                }
+                fault_of(0, 0)
             } else {
-                Fault {
-                    number: 12,
-                    place: 0,
-                }
+                fault_of(12, 0)
             }
         } else {
-            Fault {
-                number: 10,
-                place: 0,
-            }
+            fault_of(10, 0)
         }
     }
 
@@ -421,20 +388,10 @@ impl Run {
                     count: 0,
                 };
             }
-            Answer {
-                run: self,
-                number: f.number,
-                place: f.place,
-                count: 0,
-            }
+            refused(self, f.number, f.place)
         } else {
             let f = foreign(table);
-            Answer {
-                run: self,
-                number: f.number,
-                place: f.place,
-                count: 0,
-            }
+            refused(self, f.number, f.place)
         }
     }
 
@@ -445,33 +402,18 @@ impl Run {
         let phase = self.phase;
         if agrees(phase, self.rows, self.done, plan.closing) {
             if lent < plan.words {
-                return Fault {
-                    number: 11,
-                    place: 0,
-                };
+                return fault_of(11, 0);
             }
             if draining(phase) {
                 if space < plan.room {
-                    return Fault {
-                        number: 16,
-                        place: 0,
-                    };
+                    return fault_of(16, 0);
                 }
-                Fault {
-                    number: 0,
-                    place: 0,
-                }
+                fault_of(0, 0)
             } else {
-                Fault {
-                    number: 12,
-                    place: 0,
-                }
+                fault_of(12, 0)
             }
         } else {
-            Fault {
-                number: 10,
-                place: 0,
-            }
+            fault_of(10, 0)
         }
     }
 
@@ -504,20 +446,10 @@ impl Run {
                     count: count,
                 };
             }
-            Answer {
-                run: self,
-                number: f.number,
-                place: f.place,
-                count: 0,
-            }
+            refused(self, f.number, f.place)
         } else {
             let f = foreign(table);
-            Answer {
-                run: self,
-                number: f.number,
-                place: f.place,
-                count: 0,
-            }
+            refused(self, f.number, f.place)
         }
     }
 }

@@ -1,13 +1,11 @@
 -- The plan of accepted bytes has the numbers that the theory of runs asks for.
 -- Assumes nothing.
 use Prim.Native.Nat.{ℕ, _≤_, _<_}
-use mathlib.Core.Path.{_≡_, sym, ap, subst, _∙_}
+use mathlib.Core.Path.{_≡_, sym, subst}
 use mathlib.Core.List.{List}
 use native.Mathlib.Omega.{arith}
-use Rattle.basis.specs.Sums.{most}
 use Rattle.basis.proofs.Sums.{most-all}
-use Rattle.value.specs.declared.Value.{Value}
-use Rattle.table.specs.Table.{Table, Decoded, decoded, streams}
+use Rattle.table.specs.Table.{Table, Decoded, streams}
 use Rattle.table.proofs.Sound.{sound}
 use Rattle.lola.specs.Run as run
 use Rattle.lola.specs.Run.{Announced}
@@ -15,7 +13,7 @@ use Rattle.meaning.specs.Plans.{planOf, FitsIn}
 use Rattle.meaning.proofs.Accepted.{table-announced, table-order}
 use Rattle.announce.specs.Announced.{announced}
 use Rattle.plan.specs.PlanFor.{tableIn, rowFits, lookFor, keptFor, planFor}
-use Rattle.plan.proofs.Announcing.{Accepting, accepting}
+use Rattle.plan.proofs.Announcing.{accepting}
 
 -- the rank of the streams within a turn, and the types of their values
 pub record PlanAnnounced (s : List ℕ) : Type 0 where

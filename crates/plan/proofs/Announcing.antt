@@ -15,7 +15,7 @@ use Rattle.basis.specs.Edges.{among}
 use Rattle.basis.proofs.Sums.{total-same}
 use Rattle.basis.proofs.Tests.{lt-or-ge}
 use Rattle.walks.specs.Walks.{Within, Kept, Right}
-use Rattle.walks.specs.Longest.{squareOf, through, loopsBelow, lookOf, placeOf, keptOf}
+use Rattle.walks.specs.Longest.{squareOf, loopsBelow, lookOf, placeOf, keptOf}
 use Rattle.walks.proofs.Announced.{accepted-right, right-accepted, right-announced}
 use Rattle.square.specs.Square.{firsts}
 use Rattle.square.proofs.Rows.{length-firsts, getD-firsts}
@@ -24,7 +24,7 @@ use Rattle.table.proofs.Sound.{sound, refusal-number}
 use Rattle.announce.specs.declared.Checked.{Checked}
 use Rattle.announce.specs.Announced.{longest, lookAhead, keptValues, storeWords, closingTurns, refusal, acceptance, weighTable, afterScan, announced}
 use Rattle.certificate.specs.Certificate.{of}
-use Rattle.vouch.specs.Vouching.{Bounded, Certified}
+use Rattle.vouch.specs.Vouching.{Certified}
 
 module _ (s : List ℕ) (t : Table) (e : decode s ≡ decoded t) where
   pub edges-within : Within (among (edges t)) (streams t)

@@ -1,18 +1,17 @@
 -- The plan of the bytes as the arrays of a call's plan hold it: what a turn needs, and that both are one plan.
 -- Assumes nothing.
 use Prim.Native.Nat.{ℕ, _-_, _≤_, _<_}
-use mathlib.Core.Path.{_≡_, refl, sym, ap, subst, _∙_}
+use mathlib.Core.Path.{_≡_, sym, ap, subst, _∙_}
 use mathlib.Core.Bool.{false}
 use mathlib.Core.List.{List}
 use native.Mathlib.Omega.{arith}
-use lib.ListN.{length, getD, take}
+use lib.ListN.{getD, take}
 use Rattle.basis.proofs.Sums.{most-all}
 use Rattle.value.specs.declared.Value.{Value}
 use Rattle.value.specs.declared.Value.the-variants.{Flag}
 use Rattle.value.specs.Values.{imageOf, readingOf}
 use Rattle.expression.specs.Grammar.{Parsed, good, bad, parse}
-use Rattle.table.specs.Table.{Table, Decoded, decode, streams, equationOf}
-use Rattle.table.specs.Answers.{padded}
+use Rattle.table.specs.Table.{Table, streams, equationOf}
 use Rattle.table.specs.Sound.{Sound}
 use Rattle.table.proofs.Sound.{sound}
 use Rattle.lola.specs.Run as run

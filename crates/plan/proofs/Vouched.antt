@@ -1,14 +1,14 @@
 -- From numbers that are vouched for to a plan by them.
 -- Assumes nothing.
 use Prim.Native.Nat.{ℕ, _+_, _-_, _*_, _≤_, _<_}
-use mathlib.Core.Path.{_≡_, refl, sym, ap, subst, _∙_}
+use mathlib.Core.Path.{_≡_, sym, ap, subst, _∙_}
 use mathlib.Core.Bool.{Bool, true, false}
 use mathlib.Core.List.{List}
 use native.Mathlib.Omega.{arith}
 use lib.ListN.{length, getD}
 use Rattle.basis.specs.Sums.{total, most}
 use Rattle.basis.proofs.Sums.{total-same, most-same, total-bound}
-use Rattle.table.specs.Table.{Table, streams, decode, decoded}
+use Rattle.table.specs.Table.{Table, streams}
 use Rattle.table.specs.Sound.{Sound}
 use Rattle.table.proofs.Sound.{sound}
 use Rattle.announce.specs.declared.Checked.{Checked}

@@ -1,21 +1,21 @@
 -- Each call of the code on a record of the table answers as the theory does.
 -- Assumes nothing.
-use Prim.Native.Nat.{ℕ, zero, suc, _+_, _<_, _≤_}
+use Prim.Native.Nat.{ℕ, suc, _+_, _<_, _≤_}
 use mathlib.Core.Path.{_≡_, refl, sym, ap, _∙_}
 use mathlib.Core.Logic.{_⊎_, inl, inr}
 use mathlib.Core.Bool.{Bool, true, false, cond, not, _&&_}
-use mathlib.Core.List.{List, [], _∷_, _++_}
+use mathlib.Core.List.{List, [], _++_}
 use native.Mathlib.Omega.{arith}
 use native.Mathlib.Numerals.{add-one}
 use native.Mathlib.Decide.{decLt}
-use borrow.Author.Tests.{lt-ltb, le-ltb, le-leb, lt-leb, eq-eqb, ne-eqb, ltb-true, ltb-false}
+use borrow.Author.Tests.{lt-ltb, le-ltb, le-leb, lt-leb, eq-eqb, ne-eqb}
 use lib.Dec.{leb, ltb, eqb}
-use lib.ListN.{length, getD, drop, replicate}
+use lib.ListN.{length, drop, replicate}
 use Rattle.basis.proofs.Tests.{lt-or-ge}
 use Rattle.value.specs.declared.Value.{Value}
 use Rattle.lola.specs.Run as run
-use Rattle.lola.specs.Run.{Rec, Given, Call, words, answer, answered, accepts, turn, refuse, storeAfter, givenOn}
-use Rattle.output.specs.Encoding.{encode, overwritten, Emitted}
+use Rattle.lola.specs.Run.{Rec, words, answer, answered, accepts, turn, refuse, storeAfter, givenOn}
+use Rattle.output.specs.Encoding.{encode, overwritten}
 use Rattle.announce.specs.Announced.{announced}
 use Rattle.plan.specs.PlanFor.{tableFor, firstBad, planFor}
 use Rattle.monitor.specs.declared.Phase.{Phase}
@@ -24,8 +24,8 @@ use Rattle.monitor.specs.declared.Run.{Run}
 use Rattle.monitor.specs.declared.Fault.{Fault}
 use Rattle.monitor.specs.declared.Answer.{Answer}
 use Rattle.monitor.specs.Turns.{bytesOn}
-use Rattle.monitor.specs.Refusals.{fault, fine, openFault, refuseIf, afterTable, eqbs, phaseAgrees, recordAgrees, ofTable, isReading, isDraining, closeRefusal, closeFault, rowRefusal, rowFault, drainRefusal, drainFault}
-use Rattle.monitor.specs.Calls.{After, refusal, acceptance, unless, openCall, rowCall, closedPhase, closeCall, drainedPhase, drainCall, Leaves, Opens}
+use Rattle.monitor.specs.Refusals.{fine, openFault, refuseIf, phaseAgrees, recordAgrees, ofTable, isReading, isDraining, closeRefusal, closeFault, rowRefusal, rowFault, drainRefusal, drainFault}
+use Rattle.monitor.specs.Calls.{After, refusal, acceptance, openCall, rowCall, closedPhase, closeCall, drainedPhase, drainCall, Leaves, Opens}
 use Rattle.monitor.proofs.Refusals.{table-passed, eqbs-same, open-0}
 use Rattle.runs.specs.Runs.{phaseOf, recOf, Numbered, bytesOf, Agrees, Is, Begins}
 use Rattle.runs.proofs.Words.{plan-words}

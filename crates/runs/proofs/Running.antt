@@ -1,32 +1,32 @@
 -- A run of the code is a run of the theory, and so demand 3 holds of it.
 -- Assumes nothing.
 use Prim.Native.Nat.{ℕ, _+_, _≤_}
-use mathlib.Core.Path.{_≡_, refl, sym, ap, subst, _∙_}
+use mathlib.Core.Path.{_≡_, refl, sym, ap, _∙_}
 use mathlib.Core.Bool.{Bool, true, false, cond, not}
 use mathlib.Core.List.{List, [], _∷_, _++_, map, append-nil}
 use native.Mathlib.Omega.{arith}
 use borrow.Author.Tests.{eq-eqb, eqb-true, eqb-false, ltb-false}
 use lib.Dec.{eqb, ltb}
-use lib.ListN.{length, take, drop}
+use lib.ListN.{length, take, drop, replicate}
 use lib.Seq.{take-append-seam}
 use Rattle.value.specs.declared.Value.{Value}
 use Rattle.lola.specs.Run as run
 use Rattle.lola.specs.Run.{Rec, Given, Call, words, answer, storeAfter}
 use Rattle.lola.proofs.Demands.{demand3}
 use Rattle.meaning.specs.Plans.{FitsIn}
-use Rattle.output.specs.Encoding.{overwritten, Emitted}
+use Rattle.output.specs.Encoding.{Emitted}
 use Rattle.announce.specs.Announced.{announced}
 use Rattle.plan.specs.PlanFor.{planFor}
-use Rattle.plan.proofs.Accepted.{PlanAnnounced, plan-announced}
+use Rattle.plan.proofs.Accepted.{plan-announced}
 use Rattle.monitor.specs.declared.Phase.the-variants.{Reading}
 use Rattle.monitor.specs.declared.Run.{Run}
 use Rattle.monitor.specs.declared.Fault.{Fault}
 use Rattle.monitor.specs.declared.Answer.{Answer}
 use Rattle.monitor.specs.Turns.{bytesOn}
-use Rattle.monitor.specs.Refusals.{fault, fine, refuseIf, afterTable, openFault, rowFault, drainFault}
-use Rattle.monitor.specs.Calls.{After, refusal, acceptance, zeroRun, openCall, rowCall, closeCall, drainedPhase, drainCall, Leaves, Opens}
-use Rattle.runs.specs.Runs.{recOf, Numbered, bytesOf, Agrees, Is, Begins}
-use Rattle.runs.specs.Ran.{Ran, opened, row, closed, drained, refused-row, refused-drain, CodeMeets}
+use Rattle.monitor.specs.Refusals.{fine, refuseIf, afterTable, openFault, rowFault, drainFault}
+use Rattle.monitor.specs.Calls.{After, refusal, acceptance, zeroRun, openCall, rowCall, drainedPhase, drainCall, Leaves}
+use Rattle.runs.specs.Runs.{recOf, Numbered, bytesOf}
+use Rattle.runs.specs.Ran.{Ran, opened, row, closed, drained, refused-open, refused-row, refused-drain, refused-close, CodeMeets}
 use Rattle.runs.proofs.Words.{plan-words}
 use Rattle.runs.proofs.Answering.{row-is, drain-is, close-is, open-is}
 
@@ -36,6 +36,12 @@ module _ (f : Fault) (r next : Run) (st out st1 bytes : List ℕ) where
   refused-by : (b : Bool) → (cond b (acceptance next st1 bytes out) (refusal r f st out) .answer .number ≡ 0 → ⊥) → cond b (acceptance next st1 bytes out) (refusal r f st out) .store ≡ st
   refused-by true n = absurd (n refl)
   refused-by false n = refl
+
+open-leaves-store : (s st : List ℕ) → (openCall s st .answer .number ≡ 0 → ⊥) → openCall s st .store ≡ st
+unfolding openCall
+open-leaves-store s st n =
+    refused-by (openFault s (length st)) zeroRun (record { look = announced s .look; kept = announced s .kept; rows = 0; phase = Reading; done = 0 }) st []
+    (replicate (announced s .words) 0 ++ drop (announced s .words) st) [] (eqb (openFault s (length st) .number) 0) n
 
 row-leaves-store : (s : List ℕ) (r : Run) (ws st out : List ℕ) → (rowCall s r ws st out .answer .number ≡ 0 → ⊥) → rowCall s r ws st out .store ≡ st
 unfolding rowCall
@@ -84,7 +90,7 @@ map-more s (h ∷ gs) g = ap (λ (l : List (List ℕ)). bytesOf s h ∷ l) (map-
 
 -- ---- the theory's run
 
-record Follows (s st₀ : List ℕ) (ks : List (Call ℕ)) (r : Run) (st : List ℕ) (log : List (List ℕ)) : Type 0 where
+pub record Follows (s st₀ : List ℕ) (ks : List (Call ℕ)) (r : Run) (st : List ℕ) (log : List (List ℕ)) : Type 0 where
   pub given : List (List (Given Value))
   pub bytes-are : log ≡ map (bytesOf s) given
   pub theory : run.Run (planFor s) st₀ ks (recOf r) st given
@@ -97,7 +103,7 @@ module _ (s st₀ : List ℕ) where
   still-numbered : {r next : Run} → Numbered s r → (next .look ≡ r .look) × (next .kept ≡ r .kept) → Numbered s next
   still-numbered n q = record { accepted = n .accepted; look-is = q .0 ∙ n .look-is; kept-is = q .1 ∙ n .kept-is }
 
-  follows : {ks : List (Call ℕ)} {r : Run} {st : List ℕ} {log : List (List ℕ)} → Ran s st₀ ks r st log → Follows s st₀ ks r st log
+  pub follows : {ks : List (Call ℕ)} {r : Run} {st : List ℕ} {log : List (List ℕ)} → Ran s st₀ ks r st log → Follows s st₀ ks r st log
   follows (opened o n) =
       let q = opening-accepted s st₀ (sym (ap (λ (z : Answer). z .number) (o .answer-is)) ∙ n) in
       let h : words (planFor s) ≤ length st₀ = omega (arith, plan-words s (q .0), q .1) in
@@ -130,12 +136,17 @@ module _ (s st₀ : List ℕ) where
         theory = rw append-nil at (as-run (i .record-is) (i .store-is) (run.taken (f .theory) run.close (i .taken-is ∙ eq-eqb _ _ n)));
         numbered = still-numbered (f .numbered) (i .numbers-stay);
       }
+  follows (refused-open {st = st} x q o n) =
+      let f = follows x in
+      let same = o .store-is ∙ open-leaves-store q st (λ e. n (ap (λ (z : Answer). z .number) (o .answer-is) ∙ e)) in
+      record { given = f .given; bytes-are = f .bytes-are; theory = as-run refl same (f .theory); numbered = f .numbered }
   follows (refused-row {st = st} x q r′ ws out l n) =
       let f = follows x in
       record { given = f .given; bytes-are = f .bytes-are; theory = as-run refl (left-store l n (row-leaves-store q r′ ws st out)) (f .theory); numbered = f .numbered }
   follows (refused-drain {st = st} x q r′ out l n) =
       let f = follows x in
       record { given = f .given; bytes-are = f .bytes-are; theory = as-run refl (left-store l n (drain-leaves-store q r′ st out)) (f .theory); numbered = f .numbered }
+  follows (refused-close x q r′ e n) = follows x
 
   -- demand 3, of every point that a run of the code can reach
   pub code-meets : {ks : List (Call ℕ)} {r : Run} {st : List ℕ} {log : List (List ℕ)} → Ran s st₀ ks r st log → CodeMeets s st₀ ks r st log

@@ -29,6 +29,9 @@ pub data Ran (s st₀ : List ℕ) : List (Call ℕ) → Run → List ℕ → Lis
       {ks : List (Call ℕ)} {r : Run} {st : List ℕ} {log : List (List ℕ)} → Ran s st₀ ks r st log →
       (out : List ℕ) {a : Answer} {st1 out1 : List ℕ} → Leaves (drainCall s r st out) a st1 out1 → a .number ≡ 0 →
       Ran s st₀ (run.drain (length out) ∷ ks) (a .run) st1 (log ++ (take (a .count) out1 ∷ []))
+  refused-open :
+      {ks : List (Call ℕ)} {r : Run} {st : List ℕ} {log : List (List ℕ)} → Ran s st₀ ks r st log →
+      (q : List ℕ) {a : Answer} {st1 : List ℕ} → Opens (openCall q st) a st1 → (a .number ≡ 0 → ⊥) → Ran s st₀ ks r st1 log
   refused-row :
       {ks : List (Call ℕ)} {r : Run} {st : List ℕ} {log : List (List ℕ)} → Ran s st₀ ks r st log →
       (q : List ℕ) (r′ : Run) (ws out : List ℕ) {a : Answer} {st1 out1 : List ℕ} → Leaves (rowCall q r′ ws st out) a st1 out1 → (a .number ≡ 0 → ⊥) →
@@ -37,6 +40,9 @@ pub data Ran (s st₀ : List ℕ) : List (Call ℕ) → Run → List ℕ → Lis
       {ks : List (Call ℕ)} {r : Run} {st : List ℕ} {log : List (List ℕ)} → Ran s st₀ ks r st log →
       (q : List ℕ) (r′ : Run) (out : List ℕ) {a : Answer} {st1 out1 : List ℕ} → Leaves (drainCall q r′ st out) a st1 out1 → (a .number ≡ 0 → ⊥) →
       Ran s st₀ ks r st1 log
+  refused-close :
+      {ks : List (Call ℕ)} {r : Run} {st : List ℕ} {log : List (List ℕ)} → Ran s st₀ ks r st log →
+      (q : List ℕ) (r′ : Run) {a : Answer} → a ≡ closeCall q r′ .answer → (a .number ≡ 0 → ⊥) → Ran s st₀ ks r st log
 
 -- Demand 3 of the code: it holds of the run, and the bytes of each turn are those of the values that the theory gives
 pub record CodeMeets (s st₀ : List ℕ) (ks : List (Call ℕ)) (r : Run) (st : List ℕ) (log : List (List ℕ)) : Type 0 where

@@ -4,7 +4,6 @@ use Prim.Native.Nat.{ℕ}
 use mathlib.Core.Path.{_≡_}
 use mathlib.Core.List.{List, [], map}
 use lib.Dec.{eqb}
-use lib.ListN.{length}
 use Rattle.value.specs.declared.Value.{Value}
 use Rattle.lola.specs.Run as run
 use Rattle.lola.specs.Run.{Rec, Given, Call, answer}

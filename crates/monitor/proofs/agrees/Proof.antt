@@ -1,6 +1,5 @@
 -- `agrees`: rows of 32 bits are within the limit.
 -- Assumes nothing.
-use mathlib.Core.Path.{_≡_, refl, sym, ap, _∙_}
 use native.Mathlib.Omega.{arith}
 use borrow.Author.Needs.{needs}
 use Rattle.monitor.proofs.Tests.{agrees-reading, agrees-draining, agrees-none, agrees-empty, agrees-over}

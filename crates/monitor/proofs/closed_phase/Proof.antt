@@ -1,8 +1,5 @@
 -- `closed_phase`: over with no rows or no closing turns.
 -- Assumes nothing.
-use mathlib.Core.Path.{_≡_, refl, sym, ap, _∙_}
-use native.Mathlib.Omega.{arith}
-use borrow.Author.Needs.{needs}
 use Rattle.monitor.proofs.Tests.{closed-empty, closed-flat, closed-more}
 use Rattle.monitor.proofs.closed_phase.Statement.{statement}
 use Rattle.monitor.proofs.closed_phase.Tie as tie

@@ -1,8 +1,5 @@
 -- `drained_phase`: over with all closing turns done.
 -- Assumes nothing.
-use mathlib.Core.Path.{_≡_, refl, sym, ap, _∙_}
-use native.Mathlib.Omega.{arith}
-use borrow.Author.Needs.{needs}
 use Rattle.monitor.proofs.Tests.{drained-more, drained-all}
 use Rattle.monitor.proofs.drained_phase.Statement.{statement}
 use Rattle.monitor.proofs.drained_phase.Tie as tie

@@ -1,7 +1,6 @@
 -- `draining`: the phases one by one.
 -- Assumes nothing.
-use mathlib.Core.Path.{_≡_, refl, sym, ap, _∙_}
-use native.Mathlib.Omega.{arith}
+use mathlib.Core.Path.{refl}
 use borrow.Author.Needs.{needs}
 use Rattle.monitor.proofs.Tests.{draining-by}
 use Rattle.monitor.proofs.draining.Statement.{statement}

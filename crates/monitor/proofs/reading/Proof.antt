@@ -1,7 +1,6 @@
 -- `reading`: the phases one by one.
 -- Assumes nothing.
-use mathlib.Core.Path.{_≡_, refl, sym, ap, _∙_}
-use native.Mathlib.Omega.{arith}
+use mathlib.Core.Path.{refl}
 use borrow.Author.Needs.{needs}
 use Rattle.monitor.proofs.Tests.{reading-by}
 use Rattle.monitor.proofs.reading.Statement.{statement}

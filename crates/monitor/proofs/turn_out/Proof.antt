@@ -1,6 +1,5 @@
 -- `turn_out`: the store, then the output of what it holds.
 -- Assumes nothing.
-use mathlib.Core.Path.{_≡_, refl, sym, ap, _∙_}
 use native.Mathlib.Omega.{arith}
 use borrow.Author.Needs.{needs}
 use Rattle.plan.proofs.Held.{some-held, few-held, part-held, ready, room-held}

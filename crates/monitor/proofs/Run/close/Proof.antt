@@ -1,8 +1,6 @@
 -- `close`: by a plan, or the record is not of the table.
 -- Assumes nothing.
-use mathlib.Core.Path.{_≡_, refl, sym, ap, _∙_}
-use native.Mathlib.Omega.{arith}
-use borrow.Author.Needs.{needs}
+use mathlib.Core.Path.{sym, ap, _∙_}
 use Rattle.monitor.proofs.Refusals.{is-planned, unplanned, close-planned}
 use Rattle.monitor.proofs.Leaving.{close-taken, close-refused, close-foreign}
 use Rattle.monitor.specs.Calls.{closedPhase}
@@ -16,11 +14,11 @@ returns c =
 
 returns-2 : tie.Need-returns-2
 returns-2 c =
-    let x = is-planned (c .before .before .before .before .before .before .before .before .args .table .now) (c .before .before .before .before .before .before .before .before .args .self) (c .before .before .before .before .plan-of .result) (c .before .before .before .if1 .taken) (c .before .before .before .before .plan-of .ensures) in
-    close-refused (c .before .before .before .before .before .before .before .before .args .table .now) (c .before .before .before .before .before .before .before .before .args .self) (c .if2 .left) (c .before .before .close-fault .ensures ∙ sym (close-planned (c .before .before .before .before .before .before .before .before .args .self) x))
+    let x = is-planned (c .before .before .before .before .before .before .before .before .before .args .table .now) (c .before .before .before .before .before .before .before .before .before .args .self) (c .before .before .before .before .before .plan-of .result) (c .before .before .before .before .if1 .taken) (c .before .before .before .before .before .plan-of .ensures) in
+    c .refused .ensures ∙ close-refused (c .before .before .before .before .before .before .before .before .before .args .table .now) (c .before .before .before .before .before .before .before .before .before .args .self) (c .before .if2 .left) (c .before .before .before .close-fault .ensures ∙ sym (close-planned (c .before .before .before .before .before .before .before .before .before .args .self) x))
 
 returns-3 : tie.Need-returns-3
-returns-3 c = close-foreign (c .before .before .before .before .before .before .args .table .now) (c .before .before .before .before .before .before .args .self) (unplanned (c .before .before .before .before .before .before .args .table .now) (c .before .before .before .before .before .before .args .self) (c .before .before .plan-of .result) (c .before .if1 .left) (c .before .before .plan-of .ensures)) (c .foreign .ensures)
+returns-3 c = c .refused2 .ensures ∙ close-foreign (c .before .before .before .before .before .before .before .args .table .now) (c .before .before .before .before .before .before .before .args .self) (unplanned (c .before .before .before .before .before .before .before .args .table .now) (c .before .before .before .before .before .before .before .args .self) (c .before .before .before .plan-of .result) (c .before .before .if1 .left) (c .before .before .before .plan-of .ensures)) (c .before .foreign .ensures)
 
 pub close-spec : {M : Type 1} → statement M
-close-spec = tie.close (tie.spec (λ c κs. tt) (λ c κs. tt) (λ c κs. tt) returns (λ c κs. tt) returns-2 returns-3)
+close-spec = tie.close (tie.spec (λ c κs. tt) (λ c κs. tt) (λ c κs. tt) returns (λ c κs. tt) (λ c κs. tt) (λ c κs. tt) returns-2 returns-3)

@@ -1,10 +1,10 @@
 -- `drain`: by a plan, or the record is not of the table.
 -- Assumes nothing.
-use mathlib.Core.Path.{_≡_, refl, sym, ap, _∙_}
+use mathlib.Core.Path.{sym, ap, _∙_}
 use native.Mathlib.Omega.{arith}
 use borrow.Author.Needs.{needs}
 use Rattle.monitor.proofs.Refusals.{is-planned, unplanned, drain-planned, drain-accepted, turns-left}
-use Rattle.monitor.proofs.Leaving.{drain-taken, drain-refused, drain-foreign}
+use Rattle.monitor.proofs.Leaving.{leaves-by, drain-taken, drain-refused, drain-foreign}
 use Rattle.monitor.specs.Calls.{drainedPhase}
 use Rattle.monitor.proofs.Run.drain.Statement.{statement}
 use Rattle.monitor.proofs.Run.drain.Tie as tie
@@ -28,11 +28,11 @@ returns c =
 
 returns-2 : tie.Need-returns-2
 returns-2 c =
-    let x = is-planned (c .before .before .before .before .before .before .before .before .before .before .args .table .now) (c .before .before .before .before .before .before .before .before .before .before .args .self) (c .before .before .before .before .plan-of .result) (c .before .before .before .if1 .taken) (c .before .before .before .before .plan-of .ensures) in
-    drain-refused (c .before .before .before .before .before .before .before .before .before .before .args .table .now) (c .before .before .before .before .before .before .before .before .before .before .args .self) (c .if2 .left) (c .before .before .before .before .before .before .before .before .before .before .args .store .now) (c .before .before .before .before .before .before .before .before .before .before .args .out .now) (c .before .before .drain-fault .ensures ∙ sym (drain-planned (c .before .before .before .before .before .before .before .before .before .before .args .self) x _ _))
+    let x = is-planned (c .before .before .before .before .before .before .before .before .before .before .before .args .table .now) (c .before .before .before .before .before .before .before .before .before .before .before .args .self) (c .before .before .before .before .before .plan-of .result) (c .before .before .before .before .if1 .taken) (c .before .before .before .before .before .plan-of .ensures) in
+    leaves-by (c .refused .ensures) (drain-refused (c .before .before .before .before .before .before .before .before .before .before .before .args .table .now) (c .before .before .before .before .before .before .before .before .before .before .before .args .self) (c .before .if2 .left) (c .before .before .before .before .before .before .before .before .before .before .before .args .store .now) (c .before .before .before .before .before .before .before .before .before .before .before .args .out .now) (c .before .before .before .drain-fault .ensures ∙ sym (drain-planned (c .before .before .before .before .before .before .before .before .before .before .before .args .self) x _ _)))
 
 returns-3 : tie.Need-returns-3
-returns-3 c = drain-foreign (c .before .before .before .before .before .before .before .before .args .table .now) (c .before .before .before .before .before .before .before .before .args .self) (unplanned (c .before .before .before .before .before .before .before .before .args .table .now) (c .before .before .before .before .before .before .before .before .args .self) (c .before .before .plan-of .result) (c .before .if1 .left) (c .before .before .plan-of .ensures)) (c .foreign .ensures) (c .before .before .before .before .before .before .before .before .args .store .now) (c .before .before .before .before .before .before .before .before .args .out .now)
+returns-3 c = leaves-by (c .refused2 .ensures) (drain-foreign (c .before .before .before .before .before .before .before .before .before .args .table .now) (c .before .before .before .before .before .before .before .before .before .args .self) (unplanned (c .before .before .before .before .before .before .before .before .before .args .table .now) (c .before .before .before .before .before .before .before .before .before .args .self) (c .before .before .before .plan-of .result) (c .before .before .if1 .left) (c .before .before .before .plan-of .ensures)) (c .before .foreign .ensures) (c .before .before .before .before .before .before .before .before .before .args .store .now) (c .before .before .before .before .before .before .before .before .before .args .out .now))
 
 pub drain-spec : {M : Type 1} → statement M
 drain-spec =
@@ -50,6 +50,8 @@ drain-spec =
     (λ c. search needs)
     (λ c. search needs)
     returns
+    (λ c κs. tt)
+    (λ c κs. tt)
     (λ c κs. tt)
     returns-2
     returns-3)

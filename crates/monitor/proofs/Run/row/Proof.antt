@@ -1,11 +1,11 @@
 -- `row`: by a plan, or the record is not of the table.
 -- Assumes nothing.
-use mathlib.Core.Path.{_≡_, refl, sym, ap, _∙_}
+use mathlib.Core.Path.{sym, _∙_}
 use native.Mathlib.Omega.{arith}
 use borrow.Author.Needs.{needs}
 use Rattle.plan.proofs.Held.{some-held, few-held}
 use Rattle.monitor.proofs.Refusals.{is-planned, unplanned, row-planned, row-accepted}
-use Rattle.monitor.proofs.Leaving.{row-taken, row-refused, row-foreign}
+use Rattle.monitor.proofs.Leaving.{leaves-by, row-taken, row-refused, row-foreign}
 use Rattle.monitor.proofs.Run.row.Statement.{statement}
 use Rattle.monitor.proofs.Run.row.Tie as tie
 
@@ -32,11 +32,11 @@ returns c =
 
 returns-2 : tie.Need-returns-2
 returns-2 c =
-    let x = is-planned (c .before .before .before .before .before .before .before .before .before .before .before .args .table .now) (c .before .before .before .before .before .before .before .before .before .before .before .args .self) (c .before .before .before .before .plan-of .result) (c .before .before .before .if1 .taken) (c .before .before .before .before .plan-of .ensures) in
-    row-refused (c .before .before .before .before .before .before .before .before .before .before .before .args .table .now) (c .before .before .before .before .before .before .before .before .before .before .before .args .self) (c .if2 .left) (c .before .before .before .before .before .before .before .before .before .before .before .args .row .now) (c .before .before .before .before .before .before .before .before .before .before .before .args .store .now) (c .before .before .before .before .before .before .before .before .before .before .before .args .out .now) (c .before .before .row-fault .ensures ∙ sym (row-planned (c .before .before .before .before .before .before .before .before .before .before .before .args .self) x _ _ _))
+    let x = is-planned (c .before .before .before .before .before .before .before .before .before .before .before .before .args .table .now) (c .before .before .before .before .before .before .before .before .before .before .before .before .args .self) (c .before .before .before .before .before .plan-of .result) (c .before .before .before .before .if1 .taken) (c .before .before .before .before .before .plan-of .ensures) in
+    leaves-by (c .refused .ensures) (row-refused (c .before .before .before .before .before .before .before .before .before .before .before .before .args .table .now) (c .before .before .before .before .before .before .before .before .before .before .before .before .args .self) (c .before .if2 .left) (c .before .before .before .before .before .before .before .before .before .before .before .before .args .row .now) (c .before .before .before .before .before .before .before .before .before .before .before .before .args .store .now) (c .before .before .before .before .before .before .before .before .before .before .before .before .args .out .now) (c .before .before .before .row-fault .ensures ∙ sym (row-planned (c .before .before .before .before .before .before .before .before .before .before .before .before .args .self) x _ _ _)))
 
 returns-3 : tie.Need-returns-3
-returns-3 c = row-foreign (c .before .before .before .before .before .before .before .before .before .args .table .now) (c .before .before .before .before .before .before .before .before .before .args .self) (unplanned (c .before .before .before .before .before .before .before .before .before .args .table .now) (c .before .before .before .before .before .before .before .before .before .args .self) (c .before .before .plan-of .result) (c .before .if1 .left) (c .before .before .plan-of .ensures)) (c .foreign .ensures) (c .before .before .before .before .before .before .before .before .before .args .row .now) (c .before .before .before .before .before .before .before .before .before .args .store .now) (c .before .before .before .before .before .before .before .before .before .args .out .now)
+returns-3 c = leaves-by (c .refused2 .ensures) (row-foreign (c .before .before .before .before .before .before .before .before .before .before .args .table .now) (c .before .before .before .before .before .before .before .before .before .before .args .self) (unplanned (c .before .before .before .before .before .before .before .before .before .before .args .table .now) (c .before .before .before .before .before .before .before .before .before .before .args .self) (c .before .before .before .plan-of .result) (c .before .before .if1 .left) (c .before .before .before .plan-of .ensures)) (c .before .foreign .ensures) (c .before .before .before .before .before .before .before .before .before .before .args .row .now) (c .before .before .before .before .before .before .before .before .before .before .args .store .now) (c .before .before .before .before .before .before .before .before .before .before .args .out .now))
 
 pub row-spec : {M : Type 1} → statement M
 row-spec =
@@ -51,6 +51,8 @@ row-spec =
     (λ c. search needs)
     (λ c. search needs)
     returns
+    (λ c κs. tt)
+    (λ c κs. tt)
     (λ c κs. tt)
     returns-2
     returns-3)

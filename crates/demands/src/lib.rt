@@ -1,0 +1,1 @@
+// Demands 2 and 3 as two statements and two theorems. There is no code here.
