@@ -3,8 +3,8 @@
 
 Written from the text of document 01 alone; "01:" below cites its sections.
 Usage:
-    python3 sessions.py < sessions.script        prints one line for each call
-    python3 sessions.py --self-test [script]     runs compared with the one model;
+    python3 tests/sessions.py < crates/sessions/stdin   prints one line for each call
+    python3 tests/sessions.py --self-test [script]      runs compared with the one model;
                                                  the script's tables and rows too
 """
 import functools

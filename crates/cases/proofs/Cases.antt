@@ -3,8 +3,9 @@
 use Prim.Native.Nat.{ℕ}
 use native.Mathlib.Omega.{arith}
 use mathlib.Core.Path.{_≡_, refl, sym, _∙_, subst}
-use mathlib.Core.List.{List, [], _∷_}
+use mathlib.Core.List.{List, [], _∷_, map}
 use lib.IntN.{pos, negsuc}
+use lib.ListN.{drop}
 use lib.Ieee as Ieee
 use Rattle.basis.specs.Sums.{total, most}
 use Rattle.value.specs.declared.Value.{Value}
@@ -24,6 +25,9 @@ use Rattle.square.specs.Square.{firsts}
 use Rattle.announce.specs.Announced.{lookAhead, keptValues, storeWords, roomBytes, closingTurns, weighTable, announced}
 use Rattle.table.proofs.TableA.{table-a-decodes}
 use Rattle.lola.specs.Models.{value, refer}
+use Rattle.lola.specs.Run.{gather, owed}
+use Rattle.plan.specs.PlanFor.{planFor}
+use Rattle.monitor.specs.Turns.{inWords}
 use Rattle.meaning.specs.Expressions.{meaning}
 use Rattle.meaning.specs.Tables.{TableModel}
 use Rattle.cases.specs.Cases.{wordsFrom, AllHold, rowsP2, rowP4, cases}
@@ -49,6 +53,11 @@ module _ (rows : List (List ℕ)) (t : Table) (e : decode tableA ≡ decoded t) 
 
   pub model-A : TableModel tableOfA rows σ
   model-A = subst (λ (u : Table). TableModel u rows σ) same m
+
+-- what holds of every model of table A holds of every model of what its bytes decode to
+of-table-A : (rows : List (List ℕ)) (P : (ℕ → ℕ → Value) → Type 0) → ((σ : ℕ → ℕ → Value) → TableModel tableOfA rows σ → P σ)
+    → (t : Table) → decode tableA ≡ decoded t → (σ : ℕ → ℕ → Value) → TableModel t rows σ → P σ
+of-table-A rows P h t e σ m = h σ (model-A rows t e σ m)
 
 -- P2 and P3
 module _ (σ : ℕ → ℕ → Value) (m : TableModel tableOfA rowsP2 σ) where
@@ -86,54 +95,34 @@ module _ (σ : ℕ → ℕ → Value) (m : TableModel tableOfA rowP4 σ) where
   unfolding wordsFrom meaning value refer opOf
   stream2-P4 = rw (m .holds 2 0 (omega arith) (omega arith) (omega arith)) (rw row)
 
+  -- turn 0 owes stream 1, the closing turn stream 2
+  turn0 : map inWords (owed (planFor tableA) σ 1 0) ≡ record { stream = 1; position = 0; word = 5 } ∷ []
+  unfolding tableA ruleOf rows look meant wordAt signedOf nodeOf nodeBy nodeAt typeFault wordFault zeroFault first faultOf headOf headBy headAt operands step parse nodeReferences references recordFault typeRule roleRule headFault inputFault outputFault equationFault sideOf streamFault roleAt declared heads equationAt equationsAt tableOf decode edgesFrom edges only squareOf through allBelow loopsBelow lookTo lookOf supTo back shortLoop lowest placeOf slackOf keptOf firsts total most lookAhead keptValues storeWords roomBytes closingTurns weighTable announced planFor owed gather meaning value refer opOf
+  turn0 = rw (m .holds 1 0 (omega arith) (omega arith) (omega arith)) (rw row)
+
+  turn1 : map inWords (owed (planFor tableA) σ 1 1) ≡ record { stream = 2; position = 0; word = 0 } ∷ []
+  unfolding tableA ruleOf rows look meant wordAt signedOf nodeOf nodeBy nodeAt typeFault wordFault zeroFault first faultOf headOf headBy headAt operands step parse nodeReferences references recordFault typeRule roleRule headFault inputFault outputFault equationFault sideOf streamFault roleAt declared heads equationAt equationsAt tableOf decode edgesFrom edges only squareOf through allBelow loopsBelow lookTo lookOf supTo back shortLoop lowest placeOf slackOf keptOf firsts total most lookAhead keptValues storeWords roomBytes closingTurns weighTable announced planFor owed gather meaning value refer opOf
+  turn1 = rw (m .holds 2 0 (omega arith) (omega arith) (omega arith)) (rw row)
+
+-- P11 and P5: the operators
+from-P11 : AllHold (drop 16 cases)
+unfolding opOf Ieee.ofBits Ieee.div Ieee.toBits
+from-P11 = (refl, (refl, tt))
+
+-- P6 to P10: the check
+from-P6 : AllHold (drop 11 cases)
+unfolding tableA ruleOf rows look meant wordAt signedOf nodeOf nodeBy nodeAt typeFault wordFault zeroFault first faultOf headOf headBy headAt operands step parse nodeReferences references recordFault typeRule roleRule headFault inputFault outputFault equationFault sideOf streamFault roleAt declared heads equationAt equationsAt tableOf decode edgesFrom edges only squareOf through allBelow loopsBelow lookTo lookOf supTo back shortLoop lowest placeOf slackOf keptOf firsts total most lookAhead keptValues storeWords roomBytes closingTurns weighTable announced
+from-P6 = (refl, (refl, (refl, (refl, (refl, from-P11)))))
+
+from-P5 : AllHold (drop 7 cases)
+unfolding opOf
+from-P5 = (refl, (refl, (refl, (refl, from-P6))))
+
+-- P4: one row of table A
+from-P4 : AllHold (drop 3 cases)
+from-P4 =
+    (of-table-A rowP4 _ stream1-P4, (of-table-A rowP4 _ stream2-P4, (of-table-A rowP4 _ turn0, (of-table-A rowP4 _ turn1, from-P5))))
+
 pub cases-hold : AllHold cases
-unfolding tableA ruleOf rows look meant wordAt signedOf nodeOf nodeBy nodeAt typeFault wordFault zeroFault first faultOf headOf headBy headAt operands step parse nodeReferences references recordFault typeRule roleRule headFault inputFault outputFault equationFault sideOf streamFault roleAt declared heads equationAt equationsAt tableOf decode edgesFrom edges only squareOf through allBelow loopsBelow lookTo lookOf supTo back shortLoop lowest placeOf slackOf keptOf firsts total most lookAhead keptValues storeWords roomBytes closingTurns weighTable announced opOf Ieee.ofBits Ieee.div Ieee.toBits
-cases-hold = (
-  refl,
-  (
-    (λ t e σ m. stream1 σ (model-A rowsP2 t e σ m)),
-    (
-      (λ t e σ m. stream2 σ (model-A rowsP2 t e σ m)),
-      (
-        (λ t e σ m. stream1-P4 σ (model-A rowP4 t e σ m)),
-        (
-          (λ t e σ m. stream2-P4 σ (model-A rowP4 t e σ m)),
-          (
-            refl,
-            (
-              refl,
-              (
-                refl,
-                (
-                  refl,
-                  (
-                    refl,
-                    (
-                      refl,
-                      (
-                        refl,
-                        (
-                          refl,
-                          (
-                            refl,
-                            (
-                              refl,
-                              (
-                                refl,
-                                tt,
-                              ),
-                            ),
-                          ),
-                        ),
-                      ),
-                    ),
-                  ),
-                ),
-              ),
-            ),
-          ),
-        ),
-      ),
-    ),
-  ),
-)
+unfolding tableA ruleOf rows look meant wordAt signedOf nodeOf nodeBy nodeAt typeFault wordFault zeroFault first faultOf headOf headBy headAt operands step parse nodeReferences references recordFault typeRule roleRule headFault inputFault outputFault equationFault sideOf streamFault roleAt declared heads equationAt equationsAt tableOf decode edgesFrom edges only squareOf through allBelow loopsBelow lookTo lookOf supTo back shortLoop lowest placeOf slackOf keptOf firsts total most lookAhead keptValues storeWords roomBytes closingTurns weighTable announced
+cases-hold = (refl, (of-table-A rowsP2 _ stream1, (of-table-A rowsP2 _ stream2, from-P4)))

@@ -2,7 +2,7 @@
 -- Assumes nothing.
 use Prim.Native.Nat.{ℕ, zero, suc, _+_, _-_}
 use mathlib.Core.Path.{_≡_}
-use mathlib.Core.List.{List, [], _∷_, _++_}
+use mathlib.Core.List.{List, [], _∷_, _++_, map}
 use lib.ListN.{length, replicate}
 use Rattle.value.specs.declared.Value.{Value}
 use Rattle.value.specs.Values.{imageOf, readingOf, applyOf}
@@ -11,7 +11,10 @@ use Rattle.table.specs.Answers.{padded}
 use Rattle.table.specs.TableA.{tableA}
 use Rattle.announce.specs.declared.Checked.{Checked}
 use Rattle.announce.specs.Announced.{announced}
+use Rattle.lola.specs.Run.{Given, owed}
 use Rattle.meaning.specs.Tables.{TableModel}
+use Rattle.plan.specs.PlanFor.{planFor}
+use Rattle.monitor.specs.Turns.{inWords}
 
 pub data Case : Type 0 where
   -- the operator of a kind, on two words read at a type, gives a word
@@ -22,6 +25,8 @@ pub data Case : Type 0 where
   refuses : (bytes : List ℕ) (number place : ℕ) → Case
   -- in every evaluation model of a table for these rows the words of stream y are these
   gives : (bytes : List ℕ) (rows : List (List ℕ)) (y : ℕ) (words : List ℕ) → Case
+  -- and what turn t owes of these rows, closed behind the last, is this: stream, position, word
+  owes : (bytes : List ℕ) (rows : List (List ℕ)) (t : ℕ) (given : List (Given ℕ)) → Case
 
 -- the words of stream y at positions j, j+1, .., n of them
 unfoldable pub wordsFrom : (ℕ → ℕ → Value) → (y n j : ℕ) → List ℕ
@@ -36,6 +41,8 @@ Holds (refuses bytes number place) =
     announced bytes ≡ record { number = number; place = place; look = replicate 32 0; kept = replicate 32 0; words = 0; room = 0; closing = 0 }
 Holds (gives bytes rows y words) =
     (t : Table) → decode bytes ≡ decoded t → (σ : ℕ → ℕ → Value) → TableModel t rows σ → wordsFrom σ y (length rows) 0 ≡ words
+Holds (owes bytes rows t given) =
+    (u : Table) → decode bytes ≡ decoded u → (σ : ℕ → ℕ → Value) → TableModel u rows σ → map inWords (owed (planFor bytes) σ (length rows) t) ≡ given
 
 -- every case of a list holds
 abbrev pub AllHold : List Case → Type 0
@@ -72,9 +79,11 @@ cases =
     ∷ gives tableA rowsP2 1 (4294967290 ∷ 10 ∷ 4294967295 ∷ [])
     -- P3 The same rows: stream 2 is 0, 1, 0.
     ∷ gives tableA rowsP2 2 (0 ∷ 1 ∷ 0 ∷ [])
-    -- P4 One row 5: stream 1 is 5; stream 2 is 0.
+    -- P4 One row 5: stream 1 is 5; stream 2 is 0, on the closing turn.
     ∷ gives tableA rowP4 1 (5 ∷ [])
     ∷ gives tableA rowP4 2 (0 ∷ [])
+    ∷ owes tableA rowP4 0 (record { stream = 1; position = 0; word = 5 } ∷ [])
+    ∷ owes tableA rowP4 1 (record { stream = 2; position = 0; word = 0 } ∷ [])
     -- P5 ahead(2147483647, 0) holds; ahead(2147483648, 0) and ahead(0, 2147483648) don't; ahead(0, 4294967295) holds.
     ∷ applies 0x26 1 2147483647 0 1
     ∷ applies 0x26 1 2147483648 0 0
