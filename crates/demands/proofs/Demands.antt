@@ -8,7 +8,7 @@ use mathlib.Core.Logic.{_⊎_, inl, inr, ⊎-elim}
 use mathlib.Core.List.{List, [], _++_, map}
 use borrow.Author.Tests.{eq-eqb, eqb-true, le-ltb, lt-ltb}
 use lib.Dec.{eqb, ltb}
-use lib.ListN.{length, take, drop}
+use lib.ListN.{length, take, drop, replicate}
 use Rattle.basis.proofs.Tests.{true-false}
 use Rattle.value.specs.declared.Value.{Value}
 use Rattle.table.specs.Table.{Table, decode, decoded, streams}
@@ -34,7 +34,7 @@ use Rattle.monitor.specs.declared.Answer.{Answer}
 use Rattle.monitor.specs.declared.Fault.{Fault}
 use Rattle.monitor.specs.Turns.{inWords, bytesOn}
 use Rattle.monitor.specs.Refusals.{afterTable, refuseIf, fine, openFault, rowFault, rowRefusal, drainFault, drainRefusal, closeFault}
-use Rattle.monitor.specs.Calls.{After, acceptance, refusal, openCall, rowCall, closeCall, drainCall, Leaves}
+use Rattle.monitor.specs.Calls.{After, acceptance, refusal, zeroRun, openCall, rowCall, closeCall, drainCall, Leaves}
 use Rattle.runs.specs.Runs.{recOf, bytesOf, Numbered}
 use Rattle.runs.specs.Ran.{Ran, CodeMeets}
 use Rattle.runs.proofs.Words.{plan-words}
@@ -73,11 +73,14 @@ module _ (f : Fault) (r next : Run) (st out st1 bytes : List ℕ) where
   untouched false n = record { record-is = refl; count-is = refl; store-is = refl; output-is = refl }
 
 refusals : (s : List ℕ) → Refusals s
-unfolding rowCall drainCall closeCall
+unfolding openCall rowCall drainCall closeCall
 refusals s r ws st out = (
-  untouched (rowFault s r (length st) ws (length out)) r _ st out (storeAfter (planFor s) (r .rows + 1) (r .rows) ws st) (bytesOn s (r .rows + 1) (r .rows) ws st) (eqb (rowFault s r (length st) ws (length out) .number) 0),
-  untouched (drainFault s r (length st) (length out)) r _ st out (storeAfter (planFor s) (r .rows) (r .rows + r .done) [] st) (bytesOn s (r .rows) (r .rows + r .done) [] st) (eqb (drainFault s r (length st) (length out) .number) 0),
+  untouched (rowFault s r (length st) ws (length out)) r _ st out (storeAfter (planFor s) (r .rows + 1) (r .rows) ws st) (bytesOn s (r .rows + 1) (r .rows) ws st)
+      (eqb (rowFault s r (length st) ws (length out) .number) 0),
+  untouched (drainFault s r (length st) (length out)) r _ st out (storeAfter (planFor s) (r .rows) (r .rows + r .done) [] st) (bytesOn s (r .rows) (r .rows + r .done) [] st)
+      (eqb (drainFault s r (length st) (length out) .number) 0),
   λ n. untouched (closeFault s r) r _ [] [] [] [] (eqb (closeFault s r .number) 0) n .record-is,
+  untouched (openFault s (length st)) zeroRun _ st [] (replicate (announced s .words) 0 ++ drop (announced s .words) st) [] (eqb (openFault s (length st) .number) 0),
 )
 
 -- ---- demand 3: a run

@@ -17,7 +17,7 @@ use Rattle.lola.specs.Demands.{times, timesIn}
 use Rattle.meaning.specs.Tables.{specOf, readIn, TableModel}
 use Rattle.plan.specs.PlanFor.{tableFor, rowFits, lookFor, planFor}
 use Rattle.monitor.specs.declared.Run.{Run}
-use Rattle.monitor.specs.Calls.{After, openCall, rowCall, closeCall, drainCall}
+use Rattle.monitor.specs.Calls.{After, zeroRun, openCall, rowCall, closeCall, drainCall}
 use Rattle.runs.specs.Runs.{bytesOf}
 use Rattle.runs.specs.Ran.{Ran}
 
@@ -47,13 +47,14 @@ pub record Untouched (x : After) (r : Run) (st out : List ℕ) : Type 0 where
 abbrev pub Opening : List ℕ → Type 0
 Opening s = (st : List ℕ) → Accepted s → announced s .words ≤ length st → openCall s st .answer .number ≡ 0
 
--- "refused calls may fall anywhere and bring anything"
+-- Every refusal, of any table, record, row, store and output. "The check and opening give an all-zero" record.
 abbrev pub Refusals : List ℕ → Type 0
 Refusals s =
     (r : Run) (ws st out : List ℕ) →
     ((rowCall s r ws st out .answer .number ≡ 0 → ⊥) → Untouched (rowCall s r ws st out) r st out)
     × ((drainCall s r st out .answer .number ≡ 0 → ⊥) → Untouched (drainCall s r st out) r st out)
     × ((closeCall s r .answer .number ≡ 0 → ⊥) → closeCall s r .answer .run ≡ r)
+    × ((openCall s st .answer .number ≡ 0 → ⊥) → Untouched (openCall s st) zeroRun st [])
 
 -- Of every point that a run can reach (`Ran`: "Its accepted calls bring that table, one store that nothing else writes, and the record
 -- last handed back; refused calls may fall anywhere and bring anything"): ks are the accepted calls, r and st the record and the store
