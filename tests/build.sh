@@ -1,6 +1,6 @@
 #!/bin/sh
-# Builds the reference and the comparison with plain rustc, from the repository's root, into
-# target/tests. Needs Rust's own library only.
+# Builds the reference, the comparison and the calls with plain rustc, from the repository's root,
+# into target/tests. Needs Rust's own library only, and for the calls target/staticlib/libdock.a.
 set -e
 out=target/tests
 mkdir -p "$out"
@@ -10,3 +10,5 @@ for program in reference compare; do
     rustc -O --edition 2021 --extern reference="$out/libreference.rlib" \
         -o "$out/$program" "tests/$program/main.rs"
 done
+rustc -O --edition 2021 --extern reference="$out/libreference.rlib" \
+    -L native=target/staticlib -l static=dock -o "$out/calls" tests/calls/main.rs

@@ -1,5 +1,4 @@
 pub mod Rows
-pub mod Loops
 pub mod Weighing
 pub mod Cells
 pub mod Numbers

@@ -3,7 +3,6 @@
 ghost use mathlib.Core.Path.{_≡_};
 ghost use Prim.Native.Nat.{ℕ, _+_, _-_, _*_, _≤_, _<_};
 ghost use lib.ListN.{length, take, getD};
-ghost use Rattle.basis.specs.Sums.{total, most};
 ghost use Rattle.square.specs.Square.{cell, riseBest};
 ghost use Rattle.announce.specs.Announced.{announced, refusal};
 ghost use Rattle.announce.specs.Rows.{RowPut, Weighs, Scanning, Fitting, numbersOf};
@@ -12,6 +11,7 @@ use table::Outcome;
 use table::Scan;
 
 // What the check announces. Numbers are by stream, 0 past the last one; a refusal has its number and place, and zeros.
+#[repr(C)]
 pub struct Checked {
     pub number: u8,
     pub place: usize,
@@ -125,56 +125,6 @@ fn row_of(all: &[u16; 1024], y: usize) -> [u16; 32]
     row
 }
 
-// The sum of the first `s` numbers.
-pub fn sum(numbers: &[u16; 32], s: usize) -> usize
-    requires { ⌜ s ≤ 32 ⌝ }
-    ensures { λ r. ⌜ r ≡ total (λ v. getD (now (numbers .entry)) v 0) s ⌝ }
-{
-    let mut words = 0;
-    let mut v = 0;
-    while v < s {
-        words += size(numbers[v]);
-        v += 1;
-    }
-    words
-}
-
-// The largest of the first `s` numbers.
-pub fn largest(numbers: &[u16; 32], s: usize) -> u16
-    requires { ⌜ s ≤ 32 ⌝ }
-    ensures { λ r. ⌜ r ≡ most (λ v. getD (now (numbers .entry)) v 0) s ⌝ }
-{
-    let mut best = 0;
-    let mut v = 0;
-    while v < s {
-        if best < numbers[v] {
-            best = numbers[v];
-        }
-        v += 1;
-    }
-    best
-}
-
-fn role_size(x: u8) -> usize
-    ensures { λ r. ⌜ (r ≡ x) × (r < 256) ⌝ }
-{
-    x as usize
-}
-
-// How many of the first `s` streams are triggers.
-pub fn triggers(roles: &[u8; 32], s: usize) -> usize
-    requires { ⌜ s ≤ 32 ⌝ }
-    ensures { λ r. ⌜ r ≡ total (λ v. getD (now (roles .entry)) v 0) s ⌝ }
-{
-    let mut count = 0;
-    let mut v = 0;
-    while v < s {
-        count += role_size(roles[v]);
-        v += 1;
-    }
-    count
-}
-
 // The announced numbers of a table whose loops are all below 0, or refusal 8.
 fn numbers_of(scan: Scan, look: [u16; 32], fall: &[u16; 1024]) -> Checked
     requires { ⌜ Fitting scan look (now fall) ⌝ }
@@ -183,12 +133,12 @@ fn numbers_of(scan: Scan, look: [u16; 32], fall: &[u16; 1024]) -> Checked
     let streams = scan.streams;
     let roles = scan.roles;
     let kept = square::kept_of(&look, fall, streams);
-    let words = sum(&kept, streams);
+    let words = numbers::sum(&kept, streams);
     if 4096 < words {
         return refusal_of(8, 0);
     }
-    let room = 10 * (streams - scan.inputs) + 6 * triggers(&roles, streams);
-    let closing = largest(&look, streams);
+    let room = 10 * (streams - scan.inputs) + 6 * numbers::triggers(&roles, streams);
+    let closing = numbers::largest(&look, streams);
     Checked {
         number: 0,
         place: 0,

@@ -1,3 +1,4 @@
+pub mod Choices
 pub mod Parts
 pub mod Edges
 pub mod Sums

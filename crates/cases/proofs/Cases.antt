@@ -12,7 +12,7 @@ use Rattle.value.specs.declared.Value.{Value}
 use Rattle.value.specs.declared.Value.the-variants.{Word}
 use Rattle.value.specs.Values.{opOf}
 use Rattle.node.specs.Kinds.{ruleOf, rows, look, meant}
-use Rattle.node.specs.Node.{wordAt, signedOf, nodeOf, nodeBy, nodeAt, typeFault, wordFault, zeroFault, first, faultOf, headOf, headBy, headAt}
+use Rattle.node.specs.Node.{wordAt, signedOf, nodeOf, nodeBy, nodeAt, typeFault, wordFault, zeroFault, first, faultOf, faultAt, headOf, headBy, headAt}
 use Rattle.node.specs.declared.Node.the-variants.{Now, At}
 use Rattle.expression.specs.Syntax.{leaf, binary}
 use Rattle.expression.specs.Grammar.{operands, step, parse}
@@ -97,11 +97,11 @@ module _ (σ : ℕ → ℕ → Value) (m : TableModel tableOfA rowP4 σ) where
 
   -- turn 0 owes stream 1, the closing turn stream 2
   turn0 : map inWords (owed (planFor tableA) σ 1 0) ≡ record { stream = 1; position = 0; word = 5 } ∷ []
-  unfolding tableA ruleOf rows look meant wordAt signedOf nodeOf nodeBy nodeAt typeFault wordFault zeroFault first faultOf headOf headBy headAt operands step parse nodeReferences references recordFault typeRule roleRule headFault inputFault outputFault equationFault sideOf streamFault roleAt declared heads equationAt equationsAt tableOf decode edgesFrom edges only squareOf through allBelow loopsBelow lookTo lookOf supTo back shortLoop lowest placeOf slackOf keptOf firsts total most lookAhead keptValues storeWords roomBytes closingTurns weighTable announced planFor owed gather meaning value refer opOf
+  unfolding tableA ruleOf rows look meant wordAt signedOf nodeOf nodeBy nodeAt typeFault wordFault zeroFault first faultOf faultAt headOf headBy headAt operands step parse nodeReferences references recordFault typeRule roleRule headFault inputFault outputFault equationFault sideOf streamFault roleAt declared heads equationAt equationsAt tableOf decode edgesFrom edges only squareOf through allBelow loopsBelow lookTo lookOf supTo back shortLoop lowest placeOf slackOf keptOf firsts total most lookAhead keptValues storeWords roomBytes closingTurns weighTable announced planFor owed gather meaning value refer opOf
   turn0 = rw (m .holds 1 0 (omega arith) (omega arith) (omega arith)) (rw row)
 
   turn1 : map inWords (owed (planFor tableA) σ 1 1) ≡ record { stream = 2; position = 0; word = 0 } ∷ []
-  unfolding tableA ruleOf rows look meant wordAt signedOf nodeOf nodeBy nodeAt typeFault wordFault zeroFault first faultOf headOf headBy headAt operands step parse nodeReferences references recordFault typeRule roleRule headFault inputFault outputFault equationFault sideOf streamFault roleAt declared heads equationAt equationsAt tableOf decode edgesFrom edges only squareOf through allBelow loopsBelow lookTo lookOf supTo back shortLoop lowest placeOf slackOf keptOf firsts total most lookAhead keptValues storeWords roomBytes closingTurns weighTable announced planFor owed gather meaning value refer opOf
+  unfolding tableA ruleOf rows look meant wordAt signedOf nodeOf nodeBy nodeAt typeFault wordFault zeroFault first faultOf faultAt headOf headBy headAt operands step parse nodeReferences references recordFault typeRule roleRule headFault inputFault outputFault equationFault sideOf streamFault roleAt declared heads equationAt equationsAt tableOf decode edgesFrom edges only squareOf through allBelow loopsBelow lookTo lookOf supTo back shortLoop lowest placeOf slackOf keptOf firsts total most lookAhead keptValues storeWords roomBytes closingTurns weighTable announced planFor owed gather meaning value refer opOf
   turn1 = rw (m .holds 2 0 (omega arith) (omega arith) (omega arith)) (rw row)
 
 -- P11 and P5: the operators
@@ -111,7 +111,7 @@ from-P11 = (refl, (refl, tt))
 
 -- P6 to P10: the check
 from-P6 : AllHold (drop 11 cases)
-unfolding tableA ruleOf rows look meant wordAt signedOf nodeOf nodeBy nodeAt typeFault wordFault zeroFault first faultOf headOf headBy headAt operands step parse nodeReferences references recordFault typeRule roleRule headFault inputFault outputFault equationFault sideOf streamFault roleAt declared heads equationAt equationsAt tableOf decode edgesFrom edges only squareOf through allBelow loopsBelow lookTo lookOf supTo back shortLoop lowest placeOf slackOf keptOf firsts total most lookAhead keptValues storeWords roomBytes closingTurns weighTable announced
+unfolding tableA ruleOf rows look meant wordAt signedOf nodeOf nodeBy nodeAt typeFault wordFault zeroFault first faultOf faultAt headOf headBy headAt operands step parse nodeReferences references recordFault typeRule roleRule headFault inputFault outputFault equationFault sideOf streamFault roleAt declared heads equationAt equationsAt tableOf decode edgesFrom edges only squareOf through allBelow loopsBelow lookTo lookOf supTo back shortLoop lowest placeOf slackOf keptOf firsts total most lookAhead keptValues storeWords roomBytes closingTurns weighTable announced
 from-P6 = (refl, (refl, (refl, (refl, (refl, from-P11)))))
 
 from-P5 : AllHold (drop 7 cases)
@@ -124,5 +124,5 @@ from-P4 =
     (of-table-A rowP4 _ stream1-P4, (of-table-A rowP4 _ stream2-P4, (of-table-A rowP4 _ turn0, (of-table-A rowP4 _ turn1, from-P5))))
 
 pub cases-hold : AllHold cases
-unfolding tableA ruleOf rows look meant wordAt signedOf nodeOf nodeBy nodeAt typeFault wordFault zeroFault first faultOf headOf headBy headAt operands step parse nodeReferences references recordFault typeRule roleRule headFault inputFault outputFault equationFault sideOf streamFault roleAt declared heads equationAt equationsAt tableOf decode edgesFrom edges only squareOf through allBelow loopsBelow lookTo lookOf supTo back shortLoop lowest placeOf slackOf keptOf firsts total most lookAhead keptValues storeWords roomBytes closingTurns weighTable announced
+unfolding tableA ruleOf rows look meant wordAt signedOf nodeOf nodeBy nodeAt typeFault wordFault zeroFault first faultOf faultAt headOf headBy headAt operands step parse nodeReferences references recordFault typeRule roleRule headFault inputFault outputFault equationFault sideOf streamFault roleAt declared heads equationAt equationsAt tableOf decode edgesFrom edges only squareOf through allBelow loopsBelow lookTo lookOf supTo back shortLoop lowest placeOf slackOf keptOf firsts total most lookAhead keptValues storeWords roomBytes closingTurns weighTable announced
 cases-hold = (refl, (of-table-A rowsP2 _ stream1, (of-table-A rowsP2 _ stream2, from-P4)))

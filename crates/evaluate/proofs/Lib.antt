@@ -1,6 +1,7 @@
 pub mod Offsets
 pub mod References
 pub mod Heads
+pub mod Leaves
 pub mod Operands
 pub mod Slots
 pub mod Settles

@@ -1,31 +1,30 @@
--- The value of an operator with its operands, one operand after the other, as the grammar reads them.
+-- The value of a leaf, and of an operator with its operands, one operand after the other, as the grammar reads them.
 -- Assumes nothing.
 use mathlib.Core.Path.{_≡_, refl, sym, ap, ap₂, _∙_}
 use mathlib.Core.List.{List}
-use Prim.Native.Nat.{ℕ, _-_, _≤_}
+use Prim.Native.Nat.{ℕ, _+_, _-_, _≤_}
 use native.Mathlib.Omega.{arith}
 use borrow.Author.Tests.{eq-eqb, ne-eqb}
 use lib.Dec.{eqb}
-use lib.ListN.{length, take}
+use lib.ListN.{length, getD, take}
 use Rattle.expression.proofs.Operands.{parse-leaf, parse-operator}
 use Rattle.node.specs.Kinds.{ruleOf, meant}
-use Rattle.node.specs.Node.{headAt}
+use Rattle.node.specs.Node.{nodeOf, headOf, headAt}
 use Rattle.expression.specs.Syntax.{Expr, leaf, unary, binary, ternary}
-use Rattle.expression.specs.Grammar.{Parsed, good, bad, andThen, orElse, operands, parse}
+use Rattle.basis.specs.Choices.{orElse}
+use Rattle.expression.specs.Grammar.{Parsed, good, bad, andThen, operands, parse}
 use Rattle.node.specs.declared.Rule.{Rule}
 use Rattle.node.specs.declared.Node.{Node}
 use Rattle.node.specs.declared.Node.the-variants.{Constant, Now, At, Operator}
-use Rattle.node.specs.declared.Head.{Head}
-use Rattle.node.specs.declared.Head.the-variants as head
+use Rattle.node.specs.Head as head
 use Rattle.value.specs.declared.Value.{Value}
 use Rattle.value.specs.Values.{applyOf, chooseOf}
 use Rattle.lola.specs.Models.{value, refer}
-use Rattle.evaluate.specs.Evaluation.{leafOf, Readable, Steps, stepOf, valueIn, evaluatedOf, Evaluates}
+use Rattle.evaluate.specs.Evaluation.{leafOf, Readable, valueIn, evaluatedOf, Evaluates}
 use Rattle.meaning.specs.Expressions.{meaning}
-use Rattle.evaluate.specs.declared.Step.{Step}
-use Rattle.evaluate.specs.declared.Step.the-variants as steps
 use Rattle.evaluate.specs.declared.Evaluated.{Evaluated}
-use Rattle.evaluate.proofs.Heads.{none-refused, standing-at}
+use Rattle.evaluate.proofs.Heads.{standing-at}
+use Rattle.evaluate.proofs.Leaves.{leaf-node, operator-node}
 
 -- what `andThen` gave came from a first part that is good
 pub record Got (q : Parsed) (f : Expr → ℕ → Parsed) (e : Expr) (m : ℕ) : Type 0 where
@@ -67,42 +66,36 @@ module _ (types kept st : List ℕ) (n j : ℕ) where
   unfolding valueIn meaning value
   value-ternary k a b c = refl
 
-  step-leaf : (h : Head) {v : Value} {next : ℕ} → stepOf types kept st n j h ≡ steps.Leaf v next → (node : Node) × ((h ≡ head.Leaf node next) × (v ≡ leafOf types kept st n j node))
-  unfolding stepOf
-  step-leaf (head.Refused why) e = let z : _≡_ {A = ℕ} 0 1 = cc in absurd (omega arith)
-  step-leaf (head.Leaf node m) e = (node, ((cc), (cc)))
-  step-leaf (head.Operator k m) e = let z : _≡_ {A = ℕ} 0 1 = cc in absurd (omega arith)
-
-  step-operator : (h : Head) {k next : ℕ} → ((why : ℕ) → h ≡ head.Refused why → ⊥) → stepOf types kept st n j h ≡ steps.Operator k next → h ≡ head.Operator k next
-  unfolding stepOf
-  step-operator (head.Refused why) z e = absurd (z why refl)
-  step-operator (head.Leaf node m) z e = let y : _≡_ {A = ℕ} 0 1 = cc in absurd (omega arith)
-  step-operator (head.Operator k m) z e = cc
-
-module _ (l : ℕ) (types kept parts st s : List ℕ) (n j place : ℕ) (x : Readable l types kept parts (length st) s place) where
+-- the node at a place where the grammar reads an expression: r is the rule of its kind, b the length of its body
+module _ {l : ℕ} {types kept parts : List ℕ} (st : List ℕ) {s : List ℕ} (n j : ℕ) {place : ℕ} (x : Readable l types kept parts (length st) s place) {r : Rule} {b : ℕ} (er : r ≡ ruleOf (getD s place 0)) (eb : b ≡ r .body) where
   abbrev ts : List ℕ
   ts = take (x .streams) types
 
-  abbrev here : Head
-  here = headAt l ts s (x .wanted) place
+  abbrev k : ℕ
+  k = getD s place 0
 
-  pub level-left : 1 ≤ l
-  level-left = let f = standing-at x .level in omega (arith, f)
+  abbrev next : ℕ
+  next = place + 1 + b
 
-  leaf-here : (node : Node) {next : ℕ} → here ≡ head.Leaf node next → good (leaf node) next ≡ good (x .expr) (x .behind)
-  leaf-here node e = sym (parse-leaf l ts s (x .wanted) place e) ∙ x .parsed
+  pub body-within : next ≤ length s
+  body-within = rw (eb, er) (standing-at x .body)
 
-  pub leaf-gives : {r : Step} {v : Value} {next : ℕ} → Steps l types kept parts st s n j place r → r ≡ steps.Leaf v next → evaluatedOf v next ≡ evaluatedOf (valueIn types kept st n j (x .expr)) (x .behind)
-  leaf-gives {r} {v} {next} h e =
-      let g = step-leaf types kept st n j here (sym (h x) ∙ e) in
-      let q : good (leaf (g .0)) next ≡ good (x .expr) (x .behind) = leaf-here (g .0) (g .1 .0) in
-      let a : v ≡ valueIn types kept st n j (x .expr) = g .1 .1 ∙ value-leaf types kept st n j (g .0) ∙ ap (valueIn types kept st n j) (sym (same-expr q)) in
-      λ i. record { value = a i; next = sym (same-end q) i }
+  head-here : headAt l ts s (x .wanted) place ≡ headOf (nodeOf s k (place + 1)) next
+  head-here = rw (eb, er) (standing-at x .is)
 
-  -- an operator of the kind k, whose rule is r
-  module _ {o : Step} {k next : ℕ} {r : Rule} (h : Steps l types kept parts st s n j place o) (e : o ≡ steps.Operator k next) (er : r ≡ ruleOf k) where
-    operator-here : here ≡ head.Operator k next
-    operator-here = step-operator types kept st n j here (none-refused l ts s (x .wanted) place (x .parsed)) (sym (h x) ∙ e)
+  pub leaf-gives : {v : Value} → r .operands ≡ 0 → v ≡ leafOf types kept st n j (nodeOf s k (place + 1)) → evaluatedOf v next ≡ evaluatedOf (valueIn types kept st n j (x .expr)) (x .behind)
+  leaf-gives {v} o ev =
+      let node = nodeOf s k (place + 1) in
+      let is : headAt l ts s (x .wanted) place ≡ head.Leaf node next = head-here ∙ leaf-node s k (place + 1) (standing-at x .allowed) (rw (← er) o) next in
+      let g : good (leaf node) next ≡ good (x .expr) (x .behind) = sym (parse-leaf l ts s (x .wanted) place is) ∙ x .parsed in
+      let a : v ≡ valueIn types kept st n j (x .expr) = ev ∙ value-leaf types kept st n j node ∙ ap (valueIn types kept st n j) (sym (same-expr g)) in
+      λ i. record { value = a i; next = sym (same-end g) i }
+
+  -- an operator
+  module _ (n0 : r .operands ≡ 0 → ⊥) where
+    operator-here : headAt l ts s (x .wanted) place ≡ head.Operator k next
+    unfolding headOf
+    operator-here = head-here ∙ rw (operator-node s k (place + 1) (rw er at n0))
 
     abbrev q : ℕ → ℕ → Parsed
     q v m = parse (l - 1) ts s v m

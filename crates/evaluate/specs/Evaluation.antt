@@ -11,17 +11,14 @@ use Rattle.value.specs.declared.Value.the-variants.{Flag}
 use Rattle.value.specs.Values.{readingOf}
 use Rattle.node.specs.declared.Node.{Node}
 use Rattle.node.specs.declared.Node.the-variants.{Constant, Now, At, Operator}
-use Rattle.node.specs.declared.Head.{Head}
-use Rattle.node.specs.declared.Head.the-variants as head
 use Rattle.expression.specs.Syntax.{Expr}
 use Rattle.expression.specs.Grammar.{good, parse}
-use Rattle.node.specs.Node.{headAt}
+use Rattle.node.specs.Kinds.{ruleOf}
+use Rattle.node.specs.Node.{nodeOf}
 use Rattle.lola.specs.Expressions.{at}
 use Rattle.meaning.specs.Expressions.{ops, meaning}
 use Rattle.lola.specs.Models.{value, refer}
 use Rattle.lola.specs.Run.{base}
-use Rattle.evaluate.specs.declared.Step.{Step}
-use Rattle.evaluate.specs.declared.Step.the-variants as steps
 use Rattle.evaluate.specs.declared.Evaluated.{Evaluated}
 
 -- a stream's number
@@ -54,6 +51,18 @@ leafOf types kept st n j (Now v) = heldOf types kept st v j
 leafOf types kept st n j (At v k d) = referredOf types kept st n j v k d
 leafOf types kept st n j (Operator k) = Flag false
 
+-- the stream that a node names is one of the 32, with its part in a store of n words
+abbrev pub NamedIn : (kept parts : List ℕ) (n : ℕ) → Node → Type 0
+NamedIn kept parts n (Constant t x) = Unit {0}
+NamedIn kept parts n (Now v) = (v < 32) × PartIn kept parts n v
+NamedIn kept parts n (At v k d) = (v < 32) × PartIn kept parts n v
+NamedIn kept parts n (Operator k) = Unit {0}
+
+-- a node of a kind whose body starts at a place of the table s: the body is all there, and the stream that it names has its part
+pub record NodeIn (kept parts : List ℕ) (n : ℕ) (s : List ℕ) (kind place : ℕ) : Type 0 where
+  pub body : place + ruleOf kind .body ≤ length s
+  pub named : NamedIn kept parts n (nodeOf s kind place)
+
 -- the grammar reads an expression at a place of the table s with l levels left, and each of its streams has its part in a store of n words
 pub record Readable (l : ℕ) (types kept parts : List ℕ) (n : ℕ) (s : List ℕ) (place : ℕ) : Type 0 where
   pub streams : ℕ
@@ -64,12 +73,6 @@ pub record Readable (l : ℕ) (types kept parts : List ℕ) (n : ℕ) (s : List 
   pub part : (v : ℕ) → v < streams → PartIn kept parts n v
   pub parsed : parse l (take streams types) s wanted place ≡ good expr behind
 
--- the node at a place: a leaf's value or an operator's kind, with the place behind it. Where the grammar reads an expression none is refused.
-unfoldable pub stepOf : (types kept st : List ℕ) (n j : ℕ) → Head → Step
-stepOf types kept st n j (head.Refused why) = steps.Operator 0 0
-stepOf types kept st n j (head.Leaf node next) = steps.Leaf (leafOf types kept st n j node) next
-stepOf types kept st n j (head.Operator k next) = steps.Operator k next
-
 abbrev pub evaluatedOf : Value → ℕ → Evaluated
 evaluatedOf v m = record { value = v; next = m }
 
@@ -77,11 +80,7 @@ evaluatedOf v m = record { value = v; next = m }
 unfoldable pub valueIn : (types kept st : List ℕ) (n j : ℕ) → Expr → Value
 valueIn types kept st n j e = value ops (refer (heldOf types kept st) n j) (meaning types e)
 
--- the contracts of `step_at` and `eval`, where the grammar reads an expression at the place
-abbrev pub Steps : (l : ℕ) (types kept parts st s : List ℕ) (n j place : ℕ) → Step → Type 0
-Steps l types kept parts st s n j place r =
-    (x : Readable l types kept parts (length st) s place) → r ≡ stepOf types kept st n j (headAt l (take (x .streams) types) s (x .wanted) place)
-
+-- the contract of `eval`, where the grammar reads an expression at the place
 abbrev pub Evaluates : (l : ℕ) (types kept parts st s : List ℕ) (n j place : ℕ) → Evaluated → Type 0
 Evaluates l types kept parts st s n j place r =
     (x : Readable l types kept parts (length st) s place) → r ≡ evaluatedOf (valueIn types kept st n j (x .expr)) (x .behind)

@@ -4,7 +4,8 @@ ghost use mathlib.Core.Path.{_≡_};
 ghost use Prim.Native.Nat.{_+_, _%_, _≤_, _<_, _^_};
 ghost use lib.ListN.{length, getD, set};
 ghost use Rattle.basis.specs.Parts.{up, down};
-ghost use Rattle.evaluate.specs.Evaluation.{slotOf, heldOf, referredOf, PartIn, Readable, Steps, Evaluates};
+ghost use Rattle.node.specs.Node.{nodeOf};
+ghost use Rattle.evaluate.specs.Evaluation.{slotOf, heldOf, referredOf, PartIn, leafOf, NodeIn, Readable, Evaluates};
 ghost use Rattle.evaluate.specs.Turns.{Ready, Fresh, Settles, Turns};
 use node::Node;
 use value::Value;
@@ -87,14 +88,8 @@ fn referred(
     value::reading(types[v], word)
 }
 
-// A leaf's value or an operator's kind, and the place behind the node.
-pub enum Step {
-    Leaf(Value, usize),
-    Operator(u8, usize),
-}
-
-// The node at `at`, with the place behind it.
-fn step_at(
+// The value of the constant or reference of the kind `kind` whose body starts at `at`. An operator is no leaf.
+fn leaf(
     bytes: &[u8],
     store: &[u32],
     types: &[u8; 32],
@@ -102,24 +97,17 @@ fn step_at(
     parts: &[u16; 32],
     known: u64,
     j: u64,
+    kind: u8,
     at: usize,
-    levels: u8,
-) -> Step
-    requires { ⌜ (j + 128 < 2 ^ 64) × Readable levels (now types) (now kept) (now parts) (length (now store)) (now bytes) at ⌝ }
-    ensures { λ r. ⌜ Steps levels (now (types .entry)) (now (kept .entry)) (now (parts .entry)) (now (store .entry)) (now (bytes .entry)) known j at r ⌝ }
+) -> Value
+    requires { ⌜ (j + 128 < 2 ^ 64) × NodeIn (now kept) (now parts) (length (now store)) (now bytes) kind at ⌝ }
+    ensures { λ r. ⌜ r ≡ leafOf (now (types .entry)) (now (kept .entry)) (now (store .entry)) known j (nodeOf (now (bytes .entry)) kind at) ⌝ }
 {
-    let kind = bytes[at];
-    let rule = node::rule_of(kind);
-    let start = at + 1;
-    let next = start + size(rule.body);
-    match node::node_of(bytes, kind, start) {
-        Node::Constant(t, w) => Step::Leaf(value::reading(t, w), next),
-        Node::Now(v) => Step::Leaf(held(store, types, kept, parts, size(v), j), next),
-        Node::At(v, k, w) => Step::Leaf(
-            referred(store, types, kept, parts, known, j, size(v), k, w),
-            next,
-        ),
-        Node::Operator(k) => Step::Operator(k, next),
+    match node::node_of(bytes, kind, at) {
+        Node::Constant(t, w) => value::reading(t, w),
+        Node::Now(v) => held(store, types, kept, parts, size(v), j),
+        Node::At(v, k, w) => referred(store, types, kept, parts, known, j, size(v), k, w),
+        Node::Operator(_) => Value::Flag(false),
     }
 }
 
@@ -129,7 +117,8 @@ pub struct Evaluated {
     pub next: usize,
 }
 
-// The expression at `at`, with `levels` levels left.
+// The expression at `at`, with `levels` levels left. The rule tells a leaf from an operator: an enum that told it would hold the leaf's value
+// too, and be copied through memory at each node.
 fn eval(
     bytes: &[u8],
     store: &[u32],
@@ -144,37 +133,38 @@ fn eval(
     requires { ⌜ (j + 128 < 2 ^ 64) × Readable levels (now types) (now kept) (now parts) (length (now store)) (now bytes) at ⌝ }
     ensures { λ r. ⌜ Evaluates levels (now (types .entry)) (now (kept .entry)) (now (parts .entry)) (now (store .entry)) (now (bytes .entry)) known j at r ⌝ }
 {
-    match step_at(bytes, store, types, kept, parts, known, j, at, levels) {
-        Step::Leaf(v, next) => Evaluated {
-            value: v,
+    let kind = bytes[at];
+    let rule = node::rule_of(kind);
+    let start = at + 1;
+    let next = start + size(rule.body);
+    if rule.operands == 0 {
+        return Evaluated {
+            value: leaf(bytes, store, types, kept, parts, known, j, kind, start),
             next: next,
-        },
-        Step::Operator(kind, next) => {
-            let rule = node::rule_of(kind);
-            let left = levels - 1;
-            let one = eval(bytes, store, types, kept, parts, known, j, next, left);
-            let a = one.value;
-            if rule.operands == 1 {
-                return Evaluated {
-                    value: value::apply(kind, a, a),
-                    next: one.next,
-                };
-            }
-            let two = eval(bytes, store, types, kept, parts, known, j, one.next, left);
-            let b = two.value;
-            if rule.operands == 2 {
-                return Evaluated {
-                    value: value::apply(kind, a, b),
-                    next: two.next,
-                };
-            }
-            let three = eval(bytes, store, types, kept, parts, known, j, two.next, left);
-            let c = three.value;
-            Evaluated {
-                value: value::choose(a, b, c),
-                next: three.next,
-            }
-        }
+        };
+    }
+    let left = levels - 1;
+    let one = eval(bytes, store, types, kept, parts, known, j, next, left);
+    let a = one.value;
+    if rule.operands == 1 {
+        return Evaluated {
+            value: value::apply(kind, a, a),
+            next: one.next,
+        };
+    }
+    let two = eval(bytes, store, types, kept, parts, known, j, one.next, left);
+    let b = two.value;
+    if rule.operands == 2 {
+        return Evaluated {
+            value: value::apply(kind, a, b),
+            next: two.next,
+        };
+    }
+    let three = eval(bytes, store, types, kept, parts, known, j, two.next, left);
+    let c = three.value;
+    Evaluated {
+        value: value::choose(a, b, c),
+        next: three.next,
     }
 }
 

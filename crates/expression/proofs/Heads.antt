@@ -15,10 +15,11 @@ use Rattle.node.specs.declared.Node.{Node}
 use Rattle.node.specs.declared.Node.the-variants.{Constant, Now, At, Operator}
 use Rattle.node.specs.declared.NodeRead.{NodeRead}
 use Rattle.node.specs.declared.NodeRead.the-variants.{Fault, Got}
-use Rattle.node.specs.declared.Head.{Head}
-use Rattle.node.specs.declared.Head.the-variants as head
+use Rattle.node.specs.Head.{Head}
+use Rattle.node.specs.Head as head
 use Rattle.node.specs.Kinds.{ruleOf}
-use Rattle.node.specs.Node.{signedOf, nodeOf, nodeBy, nodeAt, typeFault, wordFault, zeroFault, first, faultOf, headOf, headBy, headAt}
+use Rattle.node.specs.Node.{signedOf, nodeOf, nodeBy, nodeAt, typeFault, wordFault, zeroFault, first, faultOf, faultAt, headOf, headBy, headAt}
+use Rattle.node.proofs.Heads.{faultless}
 use Rattle.expression.specs.References.{NodeRefers, Ranged}
 
 -- ---- the faults of a node
@@ -123,19 +124,23 @@ head-of ts s w at (Now v) m f = f
 head-of ts s w at (At v k d) m f = f
 head-of ts s w at (Operator k) m f = f
 
+own-number : {x : ℕ} → (x ≡ 0 → ⊥) → FourOrFive x → (2 ≤ x) × (x ≤ 6)
+own-number f (inl e) = absurd (f e)
+own-number f (inr g) = omega arith
+
+any-number : (l : ℕ) (ts : List ℕ) (w : ℕ) (n : Node) → (faultAt l ts w n ≡ 0 → ⊥) → (2 ≤ faultAt l ts w n) × (faultAt l ts w n ≤ 6)
+unfolding faultAt
+any-number l ts w n =
+    pick-case (λ (x : ℕ). (x ≡ 0 → ⊥) → (2 ≤ x) × (x ≤ 6)) (eqb l 0) 6 (faultOf ts w n) (λ p f. omega arith) (λ p f. own-number f (fault-number ts w n))
+
 head-by : (l : ℕ) (ts s : List ℕ) (w at : ℕ) (r : NodeRead) → NodeSound s at r → HeadSound ts s w at (headBy l ts w r)
 unfolding headBy
 head-by l ts s w at (Fault why) h = h
 head-by l ts s w at (Got n m) h =
-    pick-case (HeadSound ts s w at) (eqb l 0) _ _ (λ _. omega arith)
-    (λ _. pick-case (HeadSound ts s w at) (eqb (faultOf ts w n) 0) _ _ (λ p. fine (eqb-true _ _ p)) (λ p. number (eqb-false _ _ p) (fault-number ts w n)))
+    pick-case (HeadSound ts s w at) (eqb (faultAt l ts w n) 0) _ _ (λ p. fine (faultless l ts w n (eqb-true _ _ p) .1)) (λ p. any-number l ts w n (eqb-false _ _ p))
   where
     fine : faultOf ts w n ≡ 0 → HeadSound ts s w at (headOf n m)
     fine q = head-of ts s w at n m (record { faultless = q; refers = fault-free-refers ts w n q (h .0); behind = h .1; within = h .2 })
-
-    number : {x : ℕ} → (x ≡ 0 → ⊥) → FourOrFive x → (2 ≤ x) × (x ≤ 6)
-    number f (inl e) = absurd (f e)
-    number f (inr g) = omega arith
 
 pub head-sound : (l : ℕ) (ts s : List ℕ) (w at : ℕ) → HeadSound ts s w at (headAt l ts s w at)
 unfolding headAt

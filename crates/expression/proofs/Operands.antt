@@ -10,15 +10,15 @@ use Rattle.node.specs.declared.Rule.{Rule}
 use Rattle.node.specs.declared.Node.{Node}
 use Rattle.node.specs.declared.NodeRead.{NodeRead}
 use Rattle.node.specs.declared.NodeRead.the-variants.{Fault, Got}
-use Rattle.node.specs.declared.Head.the-variants as head
+use Rattle.node.specs.Head as head
 use Rattle.node.specs.Kinds.{ruleOf, meant}
-use Rattle.node.specs.Node.{nodeAt, headBy, headAt}
+use Rattle.node.specs.Node.{nodeAt, faultAt, headBy, headAt}
 use Rattle.expression.specs.Syntax.{Expr, leaf, unary, binary, ternary}
 use Rattle.expression.specs.Grammar.{good, bad, operands, step, parse}
 
 -- an operator has a level left
 pub has-level : (l : ℕ) (ts s : List ℕ) (w at : ℕ) {k next : ℕ} → headAt l ts s w at ≡ head.Operator k next → 1 ≤ l
-unfolding headAt headBy
+unfolding headAt headBy faultAt
 has-level zero ts s w at {k} {next} e = absurd (go (nodeAt s at) e)
   where
     go : (n : NodeRead) → headBy zero ts w n ≡ head.Operator k next → ⊥

@@ -6,7 +6,7 @@ use Prim.Native.Nat.{ℕ, _-_}
 use native.Mathlib.Omega.{arith}
 use Rattle.node.specs.declared.Rule.{Rule}
 use Rattle.node.specs.declared.Node.{Node}
-use Rattle.node.specs.declared.Head.the-variants as head
+use Rattle.node.specs.Head as head
 use Rattle.node.specs.Kinds.{ruleOf, meant}
 use Rattle.node.specs.Node.{headAt}
 use Rattle.expression.specs.declared.Scanned.{Scanned}

@@ -8,12 +8,13 @@ use native.Mathlib.Omega.{arith}
 use lib.Dec.{eqb}
 use lib.ListN.{length}
 use Rattle.node.specs.declared.Node.the-variants.{Operator}
-use Rattle.node.specs.declared.Head.{Head}
-use Rattle.node.specs.declared.Head.the-variants as head
+use Rattle.node.specs.Head.{Head}
+use Rattle.node.specs.Head as head
 use Rattle.node.specs.Kinds.{ruleOf, meant}
 use Rattle.node.specs.Node.{headAt}
 use Rattle.expression.specs.Syntax.{Expr, Fit}
-use Rattle.expression.specs.Grammar.{Parsed, good, bad, andThen, orElse, operands, step, parse}
+use Rattle.basis.specs.Choices.{orElse}
+use Rattle.expression.specs.Grammar.{Parsed, good, bad, andThen, operands, step, parse}
 use Rattle.expression.specs.References.{references, Refers}
 use Rattle.expression.proofs.References.{node-refers, both-refer}
 use Rattle.expression.proofs.Heads.{Fine, HeadSound, head-sound}

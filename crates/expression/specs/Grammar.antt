@@ -1,12 +1,12 @@
 -- The grammar of expressions, as an executable parser: the expression that stands at a place of a table, or the number and the place
 -- of its first fault (document 01, "The table" and "Refusal numbers"). Assumes nothing.
 use Prim.Native.Nat.{ℕ, zero, suc}
-use mathlib.Core.Bool.{Bool, true, false}
 use mathlib.Core.List.{List}
 use lib.Dec.{eqb}
+use Rattle.basis.specs.Choices.{orElse}
 use Rattle.node.specs.declared.Rule.{Rule}
-use Rattle.node.specs.declared.Head.{Head}
-use Rattle.node.specs.declared.Head.the-variants as head
+use Rattle.node.specs.Head.{Head}
+use Rattle.node.specs.Head as head
 use Rattle.node.specs.Kinds.{ruleOf, meant}
 use Rattle.node.specs.Node.{headAt}
 use Rattle.expression.specs.declared.Scanned.{Scanned}
@@ -21,11 +21,6 @@ pub data Parsed : Type 0 where
 abbrev pub andThen : Parsed → (Expr → ℕ → Parsed) → Parsed
 andThen (good e n) f = f e n
 andThen (bad why place) f = bad why place
-
--- x where the test holds; what the second makes is computed only where it does not
-abbrev pub orElse : {A : Type 0} → Bool → A → (Unit {0} → A) → A
-orElse true x f = x
-orElse false x f = f tt
 
 -- the operands of an operator of the kind k, whose rule is r, parsed by p in order from the place `at` on
 unfoldable pub operands : (ℕ → ℕ → Parsed) → ℕ → ℕ → Rule → ℕ → Parsed

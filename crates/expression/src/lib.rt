@@ -5,8 +5,8 @@ ghost use Prim.Native.Nat.{_≤_, _<_};
 ghost use lib.ListN.{length, take};
 ghost use Rattle.expression.specs.Grammar.{parse};
 ghost use Rattle.expression.specs.References.{rising, falling, raised, nodeNoted, NodeRefers, Scans};
-use node::Head;
 use node::Node;
+use node::NodeRead;
 
 // What a scan answers: the place behind the expression, or the number and the place of its first fault.
 pub enum Scanned {
@@ -74,32 +74,43 @@ pub fn scan_expr(
     requires { ⌜ (streams ≤ 32) × (length (now types) ≡ 32) ⌝ }
     ensures { λ r. ⌜ Scans (parse levels (take streams (now (types .entry))) (now (table .entry)) wanted at) (now (rise .entry)) (now (fall .entry)) (now (rise .exit)) (now (fall .exit)) r ⌝ }
 {
-    match node::head_at(table, types, streams, wanted, at, levels) {
-        Head::Refused(no) => Scanned::Refused(no, at),
-        Head::Leaf(node, next) => {
-            note(rise, fall, node);
-            Scanned::Ends(next)
-        }
-        Head::Operator(kind, next) => {
-            let rule = node::rule_of(kind);
-            let first = node::meant_type(rule.first, wanted);
-            let rest = node::meant_type(rule.rest, wanted);
-            let left = levels - 1;
-            match scan_expr(table, types, streams, first, next, left, rise, fall) {
-                Scanned::Refused(no, place) => Scanned::Refused(no, place),
-                Scanned::Ends(second) => {
-                    if rule.operands == 1 {
-                        return Scanned::Ends(second);
-                    }
-                    match scan_expr(table, types, streams, rest, second, left, rise, fall) {
+    match node::node_at(table, at) {
+        NodeRead::Fault(no) => Scanned::Refused(no, at),
+        NodeRead::Got(node, next) => {
+            if levels == 0 {
+                return Scanned::Refused(6, at);
+            }
+            let no = node::fault_of(node, types, streams, wanted);
+            if no != 0 {
+                return Scanned::Refused(no, at);
+            }
+            match node {
+                Node::Operator(kind) => {
+                    let rule = node::rule_of(kind);
+                    let first = node::meant_type(rule.first, wanted);
+                    let rest = node::meant_type(rule.rest, wanted);
+                    let left = levels - 1;
+                    match scan_expr(table, types, streams, first, next, left, rise, fall) {
                         Scanned::Refused(no, place) => Scanned::Refused(no, place),
-                        Scanned::Ends(third) => {
-                            if rule.operands == 2 {
-                                return Scanned::Ends(third);
+                        Scanned::Ends(second) => {
+                            if rule.operands == 1 {
+                                return Scanned::Ends(second);
                             }
-                            scan_expr(table, types, streams, rest, third, left, rise, fall)
+                            match scan_expr(table, types, streams, rest, second, left, rise, fall) {
+                                Scanned::Refused(no, place) => Scanned::Refused(no, place),
+                                Scanned::Ends(third) => {
+                                    if rule.operands == 2 {
+                                        return Scanned::Ends(third);
+                                    }
+                                    scan_expr(table, types, streams, rest, third, left, rise, fall)
+                                }
+                            }
                         }
                     }
+                }
+                _ => {
+                    note(rise, fall, node);
+                    Scanned::Ends(next)
                 }
             }
         }

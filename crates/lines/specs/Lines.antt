@@ -1,15 +1,11 @@
 -- The program's lines, byte by byte (document 01, "The program"): a line of each sort, and the lines of the records 50 and 51 of "A run".
 -- Assumes nothing.
 use Prim.Native.Nat.{ℕ, zero, suc, _+_, _*_, _/_, _%_}
-use mathlib.Core.Bool.{Bool, true, false, cond}
+use mathlib.Core.Bool.{cond}
 use mathlib.Core.List.{List, [], _∷_, _++_}
 use lib.Dec.{eqb, ltb, leb}
 use lib.ListN.{length, getD, drop}
-
--- the first where the test holds, and only otherwise the second
-abbrev pub orElse : {A : Type 0} → Bool → A → (Unit {0} → A) → A
-orElse true x f = x
-orElse false x f = f tt
+use Rattle.basis.specs.Choices.{orElse}
 
 -- the decimal digits of n in ASCII, the most significant first, no more than `most` of them
 unfoldable pub lastDigits : (most n : ℕ) → List ℕ

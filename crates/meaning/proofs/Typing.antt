@@ -14,14 +14,16 @@ use Rattle.basis.proofs.Tests.{pick-case}
 use Rattle.value.specs.declared.Value.{Value}
 use Rattle.value.specs.Values.{opOf, typeOfOp}
 use Rattle.node.specs.Kinds.{ruleOf, meant}
-use Rattle.node.specs.Node.{nodeOf, nodeBy, nodeAt, faultOf, typeFault, wordFault, zeroFault, first, headOf, headBy, headAt}
+use Rattle.node.specs.Node.{nodeOf, nodeBy, nodeAt, faultOf, typeFault, wordFault, zeroFault, first, faultAt, headOf, headBy, headAt}
+use Rattle.node.proofs.Heads.{faultless}
 use Rattle.node.specs.declared.Node.{Node}
 use Rattle.node.specs.declared.Node.the-variants.{Constant, Now, At, Operator}
 use Rattle.node.specs.declared.NodeRead.{NodeRead}
-use Rattle.node.specs.declared.Head.{Head}
-use Rattle.node.specs.declared.Head.the-variants as head
+use Rattle.node.specs.Head.{Head}
+use Rattle.node.specs.Head as head
 use Rattle.expression.specs.Syntax.{Expr, leaf, unary, binary, ternary}
-use Rattle.expression.specs.Grammar.{Parsed, good, bad, andThen, orElse, operands, step, parse}
+use Rattle.basis.specs.Choices.{orElse}
+use Rattle.expression.specs.Grammar.{Parsed, good, bad, andThen, operands, step, parse}
 use Rattle.lola.specs.Expressions.{Ref, now, at, target}
 use Rattle.lola.specs.Models.{value}
 use Rattle.lola.specs.Graph.{Occurs, here, in1, in2a, in2b, in3a, in3b, in3c}
@@ -114,9 +116,8 @@ module _ (types : List ℕ) where
       pick-case (λ (r : NodeRead). HeadYields w (headBy l types w r)) (ltb place (length s)) _ _
       (λ _. pick-case (λ (r : NodeRead). HeadYields w (headBy l types w r)) (eqb (ruleOf (getD s place 0) .form) 0) _ _ (λ _. tt)
       (λ p. pick-case (λ (r : NodeRead). HeadYields w (headBy l types w r)) (leb (place + 1 + ruleOf (getD s place 0) .body) (length s)) _ _
-      (λ _. pick-case (HeadYields w) (eqb l 0) _ _ (λ _. tt)
-      (λ _. pick-case (HeadYields w) (eqb (faultOf types w (nodeOf s (getD s place 0) (place + 1))) 0) _ _
-      (λ q. node-yields s w (getD s place 0) (place + 1) _ (eqb-false _ _ p) _ refl (eqb-true _ _ q)) (λ _. tt)))
+      (λ _. pick-case (HeadYields w) (eqb (faultAt l types w (nodeOf s (getD s place 0) (place + 1))) 0) _ _
+      (λ q. node-yields s w (getD s place 0) (place + 1) _ (eqb-false _ _ p) _ refl (faultless l types w _ (eqb-true _ _ q) .1)) (λ _. tt))
       (λ _. tt)))
       (λ _. tt)
 

@@ -140,7 +140,7 @@ fn first_bad(row: &[u32], types: [u8; 32], inputs: usize) -> usize
 }
 
 // The fault of a call whose record has not the numbers of an accepted table of these bytes: the table's own, or 10.
-fn foreign(table: &[u8]) -> Fault
+pub fn foreign(table: &[u8]) -> Fault
     ensures { λ r. ⌜ r ≡ afterTable (now (table .entry)) (fault 10 0) ⌝ }
 {
     let c = announce::check(table);

@@ -11,8 +11,8 @@ use Rattle.node.specs.declared.Node.{Node}
 use Rattle.node.specs.declared.Node.the-variants.{Constant, Now, At, Operator}
 use Rattle.node.specs.declared.NodeRead.{NodeRead}
 use Rattle.node.specs.declared.NodeRead.the-variants.{Fault, Got}
-use Rattle.node.specs.declared.Head.{Head}
-use Rattle.node.specs.declared.Head.the-variants as head
+use Rattle.node.specs.Head.{Head}
+use Rattle.node.specs.Head as head
 use Rattle.node.specs.Kinds.{ruleOf, meant}
 
 -- "Numbers are little-endian": the four bytes from a place on
@@ -69,6 +69,10 @@ faultOf ts w (At v k d) =
     cond (ltb v (length ts)) (first (zeroFault k) (first (wordFault (getD ts v 0) d) (typeFault (getD ts v 0) w))) 4
 faultOf ts w (Operator k) = typeFault (meant (ruleOf k .result) w) w
 
+-- the same with l levels left: 6, "node at level 17", comes before 4 and 5
+unfoldable pub faultAt : ℕ → List ℕ → ℕ → Node → ℕ
+faultAt l ts w node = cond (eqb l 0) 6 (faultOf ts w node)
+
 -- a node without a fault
 unfoldable pub headOf : Node → ℕ → Head
 headOf (Constant t x) next = head.Leaf (Constant t x) next
@@ -76,11 +80,9 @@ headOf (Now v) next = head.Leaf (Now v) next
 headOf (At v k d) next = head.Leaf (At v k d) next
 headOf (Operator k) next = head.Operator k next
 
--- 6: "node at level 17"
 unfoldable pub headBy : ℕ → List ℕ → ℕ → NodeRead → Head
 headBy l ts w (Fault why) = head.Refused why
-headBy l ts w (Got node next) =
-    cond (eqb l 0) (head.Refused 6) (cond (eqb (faultOf ts w node) 0) (headOf node next) (head.Refused (faultOf ts w node)))
+headBy l ts w (Got node next) = cond (eqb (faultAt l ts w node) 0) (headOf node next) (head.Refused (faultAt l ts w node))
 
 -- what stands at a place where a node of the type w is wanted, with l levels left
 unfoldable pub headAt : ℕ → List ℕ → List ℕ → ℕ → ℕ → Head

@@ -4,7 +4,7 @@ ghost use mathlib.Core.Path.{_≡_};
 ghost use Prim.Native.Nat.{ℕ, _+_, _*_, _≤_};
 ghost use lib.ListN.{length, take};
 ghost use Rattle.node.specs.Kinds.{ruleOf, meant};
-ghost use Rattle.node.specs.Node.{wordAt, signedOf, nodeOf, nodeAt, typeFault, wordFault, zeroFault, faultOf, headAt};
+ghost use Rattle.node.specs.Node.{wordAt, signedOf, nodeOf, nodeAt, typeFault, wordFault, zeroFault, faultOf};
 
 // What a kind byte fixes. form: 0 no expression node, 1 constant, 2 now, 3 at, 4 operator. A type is 0 flag, 1 word, 2 level, and
 // 3 stands for the wanted type.
@@ -136,55 +136,34 @@ const LEVELS_TO_FLAG: Rule = Rule {
     result: 0,
 };
 
-// From kind 10 (hexadecimal) on.
-const RULES: [Rule; 32] = [
-    // 10 to 1F
-    FLAG_CONSTANT,
-    WORD_CONSTANT,
-    LEVEL_CONSTANT,
-    NOW,
-    AT,
-    NO_NODE,
-    NO_NODE,
-    NO_NODE,
-    NO_NODE,
-    NO_NODE,
-    NO_NODE,
-    NO_NODE,
-    NO_NODE,
-    NO_NODE,
-    NO_NODE,
-    NO_NODE,
-    // 20 to 2F
-    NOT,
-    FLAGS_TO_FLAG,
-    FLAGS_TO_FLAG,
-    IF,
-    WORDS_TO_WORD,
-    WORDS_TO_WORD,
-    WORDS_TO_FLAG,
-    WORDS_TO_FLAG,
-    WORDS_TO_FLAG,
-    FLAGS_TO_FLAG,
-    LEVELS_TO_FLAG,
-    LEVELS_TO_LEVEL,
-    LEVELS_TO_LEVEL,
-    LEVELS_TO_LEVEL,
-    LEVELS_TO_LEVEL,
-    LEVELS_TO_FLAG,
-];
-
-// The rule of a kind byte.
+// The constant table by kind: the rule of a kind byte. The compiler makes a table of a match over constants and reads it where it lies; an
+// array that is a constant it copies to the stack at each look-up.
 pub fn rule_of(kind: u8) -> Rule
     ensures { λ r. ⌜ r ≡ ruleOf kind ⌝ }
 {
-    if kind < 16 {
-        NO_NODE
-    } else if 48 <= kind {
-        NO_NODE
-    } else {
-        let i = (kind - 16) as usize;
-        RULES[i]
+    match kind {
+        0x10 => FLAG_CONSTANT,
+        0x11 => WORD_CONSTANT,
+        0x12 => LEVEL_CONSTANT,
+        0x13 => NOW,
+        0x14 => AT,
+        0x20 => NOT,
+        0x21 => FLAGS_TO_FLAG,
+        0x22 => FLAGS_TO_FLAG,
+        0x23 => IF,
+        0x24 => WORDS_TO_WORD,
+        0x25 => WORDS_TO_WORD,
+        0x26 => WORDS_TO_FLAG,
+        0x27 => WORDS_TO_FLAG,
+        0x28 => WORDS_TO_FLAG,
+        0x29 => FLAGS_TO_FLAG,
+        0x2a => LEVELS_TO_FLAG,
+        0x2b => LEVELS_TO_LEVEL,
+        0x2c => LEVELS_TO_LEVEL,
+        0x2d => LEVELS_TO_LEVEL,
+        0x2e => LEVELS_TO_LEVEL,
+        0x2f => LEVELS_TO_FLAG,
+        _ => NO_NODE,
     }
 }
 
@@ -348,44 +327,6 @@ pub fn fault_of(node: Node, types: &[u8; 32], streams: usize, wanted: u8) -> u8
         Node::Operator(kind) => {
             let rule = rule_of(kind);
             type_fault(meant_type(rule.result, wanted), wanted)
-        }
-    }
-}
-
-// What a scan finds at a place: a fault, a constant or reference, an operator whose operands follow.
-pub enum Head {
-    Refused(u8),
-    Leaf(Node, usize),
-    Operator(u8, usize),
-}
-
-// What stands at `at` where a node of the type `wanted` is asked, with `levels` levels left.
-pub fn head_at(
-    table: &[u8],
-    types: &[u8; 32],
-    streams: usize,
-    wanted: u8,
-    at: usize,
-    levels: u8,
-) -> Head
-    requires { ⌜ (streams ≤ 32) × (length (now types) ≡ 32) ⌝ }
-    ensures { λ r. ⌜ r ≡ headAt levels (take streams (now (types .entry))) (now (table .entry)) wanted at ⌝ }
-{
-    match node_at(table, at) {
-        NodeRead::Fault(no) => Head::Refused(no),
-        NodeRead::Got(node, next) => {
-            if levels == 0 {
-                return Head::Refused(6);
-            }
-            let no = fault_of(node, types, streams, wanted);
-            if no == 0 {
-                match node {
-                    Node::Operator(kind) => Head::Operator(kind, next),
-                    _ => Head::Leaf(node, next),
-                }
-            } else {
-                Head::Refused(no)
-            }
         }
     }
 }

@@ -12,8 +12,10 @@ use lib.ListN.{length, getD, length-append}
 use Rattle.lola.specs.Turn.{due}
 use Rattle.lola.specs.Run.{Given, gather}
 use Rattle.evaluate.specs.Evaluation.{at0, slotOf}
-use Rattle.output.specs.Encoding.{Emitted, valueRecord, triggerRecord, recordOf, encode, roomFrom, Wrote, wordOn, bytesOf, outputOf}
-use Rattle.output.proofs.Wrotes.{wrote-front, then, wrote-none, wrote-as, value-record-length, trigger-record-length}
+use Rattle.output.specs.Encoding.{Emitted, valueRecord, triggerRecord, recordOf, encode, roomFrom, wordOn, bytesOf, outputOf}
+use Rattle.basis.specs.Written.{Wrote}
+use Rattle.basis.proofs.Written.{then, wrote-as}
+use Rattle.output.proofs.Wrotes.{wrote-front, wrote-none, value-record-length, trigger-record-length}
 
 pub room-for-value : (roles : List ℕ) (y : ℕ) → 10 ≤ roomFrom roles 1 y
 unfolding roomFrom

@@ -1,35 +1,16 @@
--- Bytes written one after the other.
+-- Records written one after the other, and their lengths.
 -- Assumes nothing.
 use mathlib.Core.Path.{_≡_, refl, sym, ap, ap₂, _∙_}
-use mathlib.Core.List.{List, [], _∷_, _++_, append-assoc, append-nil}
-use Prim.Native.Nat.{ℕ, _+_, _-_, _/_, _%_, _<_}
+use mathlib.Core.List.{List, [], _∷_, _++_}
+use Prim.Native.Nat.{ℕ, _/_, _%_}
 use native.Mathlib.Omega.{arith}
-use native.Mathlib.Numerals.{add-one}
-use lib.ListN.{take-append-drop, length, set, take, drop, length-set, length-append}
-use lib.Seq.{take-suc-set, drop-set-lt, drop-drop}
-use Rattle.output.specs.Encoding.{Emitted, le4, valueRecord, triggerRecord, Wrote}
-
-pub wrote-byte : (l : List ℕ) (place b : ℕ) → place < length l → Wrote l place (b ∷ []) (set l place b) (place + 1)
-wrote-byte l place b h = record {
-  ends = refl;
-  front = rw add-one (take-suc-set l place b h);
-  rest = drop-set-lt (place + 1) l place b (omega arith);
-  size = length-set l place b;
-}
+use lib.ListN.{take-append-drop, length, drop, length-append}
+use Rattle.basis.specs.Written.{Wrote}
+use Rattle.basis.proofs.Written.{wrote-nothing, wrote-as}
+use Rattle.output.specs.Encoding.{Emitted, le4, valueRecord, triggerRecord}
 
 pub wrote-none : (l : List ℕ) (place : ℕ) {bs : List ℕ} → bs ≡ [] → Wrote l place bs l place
-wrote-none l place e = rw e (record { ends = omega arith; front = sym (append-nil (take place l)); rest = refl; size = refl })
-
-pub wrote-as : {a b bs cs : List ℕ} {p q : ℕ} → cs ≡ bs → Wrote a p bs b q → Wrote a p cs b q
-wrote-as e w = rw e w
-
-pub then : {a b c bs cs : List ℕ} {p q r : ℕ} → Wrote a p bs b q → Wrote b q cs c r → Wrote a p (bs ++ cs) c r
-then {a} {b} {c} {bs} {cs} {p} {q} {r} u v = record {
-  ends = let e = length-append bs cs in omega (arith, u .ends, v .ends);
-  front = v .front ∙ ap (λ (l : List ℕ). l ++ cs) (u .front) ∙ append-assoc (take p a) bs cs;
-  rest = v .rest ∙ ap (λ (k : ℕ). drop k b) (v .ends) ∙ sym (drop-drop (length cs) q b) ∙ ap (drop (length cs)) (u .rest) ∙ drop-drop (length cs) q a ∙ ap (λ (k : ℕ). drop k a) (sym (v .ends));
-  size = v .size ∙ u .size;
-}
+wrote-none l place e = wrote-as e (wrote-nothing l place)
 
 -- written at the front
 pub wrote-front : {a b bs : List ℕ} {r : ℕ} → Wrote a 0 bs b r → Emitted bs a b r

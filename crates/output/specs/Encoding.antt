@@ -58,10 +58,3 @@ outputOf roles look kept st n t k y = encode roles (gather (at0 look) n t (wordO
 pub record Emitted (bytes before after : List ℕ) (count : ℕ) : Type 0 where
   pub counted : count ≡ length bytes
   pub written : after ≡ overwritten bytes before
-
--- the bytes stand at a place and end before `end`; what stood before the place has stayed, and so has the rest
-pub record Wrote (before : List ℕ) (place : ℕ) (bytes after : List ℕ) (end : ℕ) : Type 0 where
-  pub ends : end ≡ place + length bytes
-  pub front : take end after ≡ take place before ++ bytes
-  pub rest : drop end after ≡ drop end before
-  pub size : length after ≡ length before

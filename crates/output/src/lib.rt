@@ -3,8 +3,9 @@ ghost use mathlib.Core.Path.{_≡_};
 ghost use mathlib.Core.List.{[], _∷_};
 ghost use Prim.Native.Nat.{ℕ, _+_, _-_, _≤_, _<_, _^_};
 ghost use lib.ListN.{length, getD};
+ghost use Rattle.basis.specs.Written.{Wrote};
 ghost use Rattle.evaluate.specs.Evaluation.{PartIn, slotOf};
-ghost use Rattle.output.specs.Encoding.{le4, valueRecord, triggerRecord, roomFrom, bytesOf, outputOf, Emitted, Wrote};
+ghost use Rattle.output.specs.Encoding.{le4, valueRecord, triggerRecord, roomFrom, bytesOf, outputOf, Emitted};
 
 // The store's word of the stream v for the position q.
 fn held_word(store: &[u32], kept: &[u16; 32], parts: &[u16; 32], v: usize, q: u64) -> u32

@@ -45,7 +45,7 @@ fn room_of(roles: &[u8; 32], inputs: usize, streams: usize) -> usize
     requires { ⌜ (inputs ≤ streams) × (streams ≤ 32) × ((v : ℕ) → getD (now roles) v 0 ≤ 1) ⌝ }
     ensures { λ r. ⌜ r ≡ 10 * (streams - inputs) + 6 * total (of (now (roles .entry))) streams ⌝ }
 {
-    10 * (streams - inputs) + 6 * announce::triggers(roles, streams)
+    10 * (streams - inputs) + 6 * numbers::triggers(roles, streams)
 }
 
 fn no_plan() -> Plan
@@ -80,9 +80,9 @@ pub fn plan_of(table: &[u8], look: [u16; 32], kept: [u16; 32]) -> Plan
         let starts = vouched.starts;
         let order = vouched.order;
         let parts = parts_of(&kept, streams);
-        let words = announce::sum(&kept, streams);
+        let words = numbers::sum(&kept, streams);
         let room = room_of(&roles, inputs, streams);
-        let closing = announce::largest(&look, streams);
+        let closing = numbers::largest(&look, streams);
         Plan {
             ok: true,
             inputs: inputs,

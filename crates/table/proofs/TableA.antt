@@ -7,7 +7,7 @@ use lib.IntN.{pos, negsuc}
 use lib.ListN.{take}
 use Rattle.node.specs.declared.Node.the-variants.{Now, At}
 use Rattle.node.specs.Kinds.{ruleOf, rows, look, meant}
-use Rattle.node.specs.Node.{wordAt, signedOf, nodeOf, nodeBy, nodeAt, typeFault, wordFault, zeroFault, first, faultOf, headOf, headBy, headAt}
+use Rattle.node.specs.Node.{wordAt, signedOf, nodeOf, nodeBy, nodeAt, typeFault, wordFault, zeroFault, first, faultOf, faultAt, headOf, headBy, headAt}
 use Rattle.expression.specs.Syntax.{leaf, binary}
 use Rattle.expression.specs.Grammar.{operands, step, parse}
 use Rattle.table.specs.Records.{recordFault, typeRule, roleRule, headFault, inputFault, outputFault, equationFault, sideOf, streamFault, roleAt, declared, heads}
@@ -26,13 +26,13 @@ pub table-a-decodes : decode tableA
           ∷ record { start = 26; expr = binary 0x26 (leaf (Now 0)) (leaf (At 0 (pos 1) 7)) }
           ∷ [];
     })
-unfolding tableA ruleOf rows look meant wordAt signedOf nodeOf nodeBy nodeAt typeFault wordFault zeroFault first faultOf headOf headBy headAt operands step parse recordFault typeRule roleRule headFault inputFault outputFault equationFault sideOf streamFault roleAt declared heads equationAt equationsAt tableOf decode
+unfolding tableA ruleOf rows look meant wordAt signedOf nodeOf nodeBy nodeAt typeFault wordFault zeroFault first faultOf faultAt headOf headBy headAt operands step parse recordFault typeRule roleRule headFault inputFault outputFault equationFault sideOf streamFault roleAt declared heads equationAt equationsAt tableOf decode
 table-a-decodes = refl
 
 pub table-a-cut : decode (take 35 tableA) ≡ refused 2 29
-unfolding tableA ruleOf rows look meant wordAt signedOf nodeOf nodeBy nodeAt typeFault wordFault zeroFault first faultOf headOf headBy headAt operands step parse recordFault typeRule roleRule headFault inputFault outputFault equationFault sideOf streamFault roleAt declared heads equationAt equationsAt tableOf decode
+unfolding tableA ruleOf rows look meant wordAt signedOf nodeOf nodeBy nodeAt typeFault wordFault zeroFault first faultOf faultAt headOf headBy headAt operands step parse recordFault typeRule roleRule headFault inputFault outputFault equationFault sideOf streamFault roleAt declared heads equationAt equationsAt tableOf decode
 table-a-cut = refl
 
 pub table-a-longer : decode (tableA ++ 0 ∷ []) ≡ refused 9 36
-unfolding tableA ruleOf rows look meant wordAt signedOf nodeOf nodeBy nodeAt typeFault wordFault zeroFault first faultOf headOf headBy headAt operands step parse recordFault typeRule roleRule headFault inputFault outputFault equationFault sideOf streamFault roleAt declared heads equationAt equationsAt tableOf decode
+unfolding tableA ruleOf rows look meant wordAt signedOf nodeOf nodeBy nodeAt typeFault wordFault zeroFault first faultOf faultAt headOf headBy headAt operands step parse recordFault typeRule roleRule headFault inputFault outputFault equationFault sideOf streamFault roleAt declared heads equationAt equationsAt tableOf decode
 table-a-longer = refl

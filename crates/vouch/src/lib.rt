@@ -4,39 +4,18 @@ ghost use mathlib.Core.Path.{_≡_};
 ghost use mathlib.Core.Bool.{false};
 ghost use Prim.Native.Nat.{_+_, _-_, _<_, _≤_};
 ghost use lib.ListN.{length, take};
-ghost use Rattle.basis.specs.Sums.{total};
 ghost use Rattle.table.specs.Table.{equationAt, equationsAt};
 ghost use Rattle.certificate.specs.Certificate.{of};
 ghost use Rattle.vouch.specs.Vouching.{ZeroPast, Bounded, Verdict};
 ghost use Rattle.vouch.specs.Steps.{Decides, NotedEquation, Judgement};
 use expression::Scanned;
 
-// Whether the numbers from the stream `s` on are 0.
+// Whether the numbers from the stream `s` on are 0: they add nothing to the sum.
 fn zero_past(numbers: &[u16; 32], s: usize) -> bool
+    requires { ⌜ s ≤ 32 ⌝ }
     ensures { λ r. ⌜ Decides r (ZeroPast (now (numbers .entry)) s) ⌝ }
 {
-    let mut v = s;
-    while v < 32 {
-        if numbers[v] != 0 {
-            return false;
-        }
-        v += 1;
-    }
-    true
-}
-
-// The sum of the numbers below the stream `s`.
-fn sum(numbers: &[u16; 32], s: usize) -> u32
-    requires { ⌜ s ≤ 32 ⌝ }
-    ensures { λ r. ⌜ r ≡ total (of (now (numbers .entry))) s ⌝ }
-{
-    let mut words = 0;
-    let mut v = 0;
-    while v < s {
-        words += certificate::wide(numbers[v]);
-        v += 1;
-    }
-    words
+    numbers::sum(numbers, 32) == numbers::sum(numbers, s)
 }
 
 // Whether the numbers are 0 past the last stream and ask no more than 4,096 store words.
@@ -46,7 +25,7 @@ fn within_bounds(look: &[u16; 32], kept: &[u16; 32], s: usize) -> bool
 {
     if zero_past(look, s) {
         if zero_past(kept, s) {
-            return sum(kept, s) <= 4096;
+            return numbers::sum(kept, s) <= 4096;
         }
     }
     false

@@ -1,7 +1,7 @@
 -- `output::put_byte` meets its contract: one byte at a place.
 -- Assumes nothing.
 use borrow.Author.Needs.{needs}
-use Rattle.output.proofs.Wrotes.{wrote-byte}
+use Rattle.basis.proofs.Written.{wrote-byte}
 use Rattle.output.proofs.put_byte.Statement.{statement}
 use Rattle.output.proofs.put_byte.Tie as tie
 

@@ -1,7 +1,7 @@
 -- `output::put_trigger` meets its contract: the two bytes and the word of a record 51.
 -- Assumes nothing.
 use borrow.Author.Needs.{needs}
-use Rattle.output.proofs.Wrotes.{then}
+use Rattle.basis.proofs.Written.{then}
 use Rattle.output.proofs.put_trigger.Statement.{statement}
 use Rattle.output.proofs.put_trigger.Tie as tie
 

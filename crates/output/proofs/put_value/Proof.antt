@@ -2,7 +2,8 @@
 -- Assumes nothing.
 use borrow.Author.Needs.{needs}
 use native.Mathlib.Omega.{arith}
-use Rattle.output.proofs.Wrotes.{then, word-length}
+use Rattle.basis.proofs.Written.{then}
+use Rattle.output.proofs.Wrotes.{word-length}
 use Rattle.output.proofs.put_value.Statement.{statement}
 use Rattle.output.proofs.put_value.Tie as tie
 

@@ -1,7 +1,8 @@
 -- `output::put_word` meets its contract: four bytes, one after the other.
 -- Assumes nothing.
 use borrow.Author.Needs.{needs}
-use Rattle.output.proofs.Wrotes.{then, wrote-word}
+use Rattle.basis.proofs.Written.{then}
+use Rattle.output.proofs.Wrotes.{wrote-word}
 use Rattle.output.proofs.put_word.Statement.{statement}
 use Rattle.output.proofs.put_word.Tie as tie
 

@@ -1,43 +1,26 @@
--- `zero_past`: the numbers from s to v are 0.
+-- `zero_past`: the numbers from s on add nothing to the sum exactly where they are 0.
 -- Assumes nothing.
-use mathlib.Core.Path.{_≡_}
-use Prim.Native.Nat.{ℕ, _-_, _<_, _≤_}
-use native.Mathlib.Omega.{arith}
+use mathlib.Core.Path.{_≡_, refl, sym, _∙_}
+use mathlib.Core.Bool.{Bool, true, false}
+use mathlib.Core.List.{List}
+use Prim.Native.Nat.{ℕ, _≤_}
+use lib.Dec.{eqb}
 use borrow.Author.Needs.{needs}
-use borrow.Author.Count.{below-more}
-use lib.ListN.{getD}
+use borrow.Author.Tests.{eqb-true, eqb-false}
+use Rattle.basis.specs.Sums.{total}
+use Rattle.basis.proofs.Sums.{total-zeros, zeros-total}
+use Rattle.certificate.specs.Certificate.{of}
+use Rattle.vouch.specs.Vouching.{ZeroPast}
+use Rattle.vouch.specs.Steps.{Decides}
 use Rattle.vouch.proofs.zero_past.Statement.{statement}
 use Rattle.vouch.proofs.zero_past.Tie as tie
 
-abbrev Inv-loop : tie.InvT-loop
-Inv-loop numbers s v₀ v = (s ≤ v) × ((i : ℕ) → i < v → s ≤ i → getD numbers i 0 ≡ 0)
+sums-decide : (numbers : List ℕ) (s : ℕ) {m n : ℕ} → s ≤ 32 → m ≡ total (of numbers) 32 → n ≡ total (of numbers) s → (b : Bool) → eqb m n ≡ b → Decides b (ZeroPast numbers s)
+sums-decide numbers s {m} {n} h p q true e = zeros-total (of numbers) s 32 (sym p ∙ eqb-true m n e ∙ q)
+sums-decide numbers s {m} {n} h p q false e = λ z. eqb-false m n e (p ∙ total-zeros (of numbers) s 32 h z ∙ sym q)
 
-abbrev μ-loop : tie.MeasureT-loop
-μ-loop numbers s v₀ v = 32 - v
-
-loop-holds : tie.Need-loop-holds Inv-loop μ-loop
-loop-holds c = (search needs, λ i h k. absurd (omega arith))
-
-returns : tie.Need-returns Inv-loop μ-loop
-returns c = λ z. c .if1 .taken (z (c .before .before .before .loop .v) (c .before .before .before .loop .inv .0) (c .before .before .loop-test .taken))
-
-loop-again : tie.Need-loop-again Inv-loop μ-loop
-loop-again c = (search needs, below-more _ _ (c .before .before .before .loop .inv .1) (λ h. c .if1 .left))
-
-returns-2 : tie.Need-returns-2 Inv-loop μ-loop
-returns-2 c = λ v h k. c .before .loop .inv .1 v (omega arith) h
+returns : tie.Need-returns
+returns c = sums-decide (c .before .before .args .numbers .now) _ (c .before .before .pre) (c .before .sum .ensures) (c .sum2 .ensures) _ refl
 
 pub zero-past-spec : {M : Type 1} → statement M
-zero-past-spec =
-    tie.close
-    (tie.spec
-    Inv-loop
-    μ-loop
-    loop-holds
-    (λ c. search needs)
-    (λ c. search needs)
-    returns
-    (λ c. search needs)
-    (λ c. search needs)
-    loop-again
-    returns-2)
+zero-past-spec = tie.close (tie.spec (λ c κs. search needs) (λ c κs. search needs) returns)

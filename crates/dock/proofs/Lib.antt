@@ -1,0 +1,7 @@
+pub mod Phases
+pub mod Giving
+pub mod Locals
+pub mod Slices
+pub mod Walk
+pub mod Entry
+pub mod Laws

@@ -1,0 +1,60 @@
+-- What stands at a place, by the node that is read there and its fault. Assumes nothing.
+use mathlib.Core.Path.{_≡_, refl, _∙_}
+use mathlib.Core.List.{List, [], _∷_}
+use mathlib.Core.Logic.{⊎-elim}
+use Prim.Native.Nat.{ℕ, _≤_}
+use native.Mathlib.Omega.{arith}
+use borrow.Author.Tests.{eq-eqb, ne-eqb, eqb-false}
+use lib.Dec.{eqb}
+use types.Run.{OneOf}
+use denote.Enum.Declared.{tagOf}
+use Rattle.basis.proofs.Tests.{pick-case}
+use Rattle.node.proofs.Node.{the-type}
+use Rattle.node.specs.Head as head
+use Rattle.node.specs.Node.{nodeAt, faultOf, faultAt, headOf, headBy, headAt}
+use Rattle.node.specs.declared.Node.{Node}
+use Rattle.node.specs.declared.Node.the-variants.{Constant, Now, At, Operator}
+use Rattle.node.specs.declared.NodeRead.the-variants.{Fault, Got}
+
+leaf-head : (n : Node) (next : ℕ) → OneOf (0 ∷ 1 ∷ 2 ∷ []) (tagOf the-type n) → headOf n next ≡ head.Leaf n next
+unfolding headOf
+leaf-head (Constant t x) next h = refl
+leaf-head (Now v) next h = refl
+leaf-head (At v k d) next h = refl
+leaf-head (Operator k) next h = absurd (⊎-elim (λ e. omega arith) (⊎-elim (λ e. omega arith) (λ e. omega arith)) h)
+
+operator-head : {n : Node} {k next : ℕ} → n ≡ Operator k → headOf n next ≡ head.Operator k next
+unfolding headOf
+operator-head e = rw e
+
+-- a node without a fault has a level left, and none of its own
+pub faultless : (l : ℕ) (ts : List ℕ) (w : ℕ) (n : Node) → faultAt l ts w n ≡ 0 → (1 ≤ l) × (faultOf ts w n ≡ 0)
+unfolding faultAt
+faultless l ts w n =
+    pick-case (λ (x : ℕ). x ≡ 0 → (1 ≤ l) × (faultOf ts w n ≡ 0)) (eqb l 0) 6 (faultOf ts w n) (λ p h. absurd (omega arith)) (λ p h. (omega (arith, eqb-false l 0 p), h))
+
+module _ (l : ℕ) (ts s : List ℕ) (w at : ℕ) where
+  pub missing : {why : ℕ} → nodeAt s at ≡ Fault why → headAt l ts s w at ≡ head.Refused why
+  unfolding headAt headBy
+  missing e = rw e
+
+  module _ {n : Node} {next : ℕ} (e : nodeAt s at ≡ Got n next) where
+    pub too-deep : l ≡ 0 → headAt l ts s w at ≡ head.Refused 6
+    unfolding headAt headBy faultAt
+    too-deep z = rw (e, z)
+
+    -- with a level left, and a fault a of its own
+    module _ {a : ℕ} (z : l ≡ 0 → ⊥) (f : a ≡ faultOf ts w n) where
+      pub refused : (a ≡ 0 → ⊥) → headAt l ts s w at ≡ head.Refused a
+      unfolding headAt headBy faultAt
+      refused b = rw (e, ne-eqb _ _ z, ← f, ne-eqb _ _ b)
+
+      whole : a ≡ 0 → headAt l ts s w at ≡ headOf n next
+      unfolding headAt headBy faultAt
+      whole b = rw (e, ne-eqb _ _ z, ← f, eq-eqb _ _ b)
+
+      pub is-leaf : a ≡ 0 → OneOf (0 ∷ 1 ∷ 2 ∷ []) (tagOf the-type n) → headAt l ts s w at ≡ head.Leaf n next
+      is-leaf b h = whole b ∙ leaf-head n next h
+
+      pub is-operator : {k : ℕ} → a ≡ 0 → n ≡ Operator k → headAt l ts s w at ≡ head.Operator k next
+      is-operator b h = whole b ∙ operator-head h

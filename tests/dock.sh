@@ -1,0 +1,137 @@
+#!/bin/sh
+# The dock's entries from C and Rust, from the repository's root:
+# sh tests/dock.sh [PROGRAM [FOLDER/libdock.a]]
+# The archive first, then both examples against the program's output, byte for byte, then all of
+# tests/compare on both. Builds into target/tests. Ends with 0 if all agree.
+set -e
+program=${1:-target/bin/glasspuddle}
+archive=${2:-target/staticlib/libdock.a}
+out=target/tests
+mkdir -p "$out"
+
+fail() {
+    echo "dock: $1"
+    exit 1
+}
+
+strict="-Wall -Wextra -Wvla -Werror -pedantic -O2 -Iinclude"
+
+compile_c() {
+    cc -std=c11 $strict -o "$out/$1" "$2" "$archive"
+}
+
+# The header alone, then the layout, by this compiler and language, if it is here.
+layout_by() {
+    if command -v "$1" > /dev/null; then
+        "$@" $strict -fsyntax-only include/glasspuddle.h
+        "$@" $strict -o "$out/layout" tests/layout.c -x none "$archive"
+        "$out/layout"
+        echo "layout: by $*"
+    else
+        echo "layout: no $1 here, not tried"
+    fi
+}
+
+# Both docks and the program on one input: the same lines, and an act for each trigger.
+same() {
+    "$program" < "$out/input" > "$out/owed"
+    sed -n 's/^t \(.*\) \(.*\)$/dock: trigger \1 at position \2/p' "$out/owed" > "$out/acts"
+    for dock in dock_c dock_rust; do
+        "$out/$dock" < "$out/input" > "$out/given" 2> "$out/acted" || fail "$dock ends badly: $1"
+        cmp "$out/owed" "$out/given" || fail "$dock gives other lines: $1"
+        cmp "$out/acts" "$out/acted" || fail "$dock acts otherwise: $1"
+    done
+    cases=$((cases + 1))
+}
+
+# The first example with the byte at this offset of the table put to this value, in octal.
+changed() {
+    head -c $((3 + $1)) "$small" > "$out/input"
+    printf "\\$2" >> "$out/input"
+    tail -c +$((5 + $1)) "$small" >> "$out/input"
+    same "byte $1 of the table put to octal $2"
+}
+
+# The next line of a dock under `live` must be this one.
+hears() {
+    read -r line <&4 || fail "$dock is not live, or has ended: no line '$1'"
+    [ "$line" = "$1" ] || fail "$dock, live: '$line' for '$1'"
+}
+
+# Table A row by row: each row's lines are read before the next row is written.
+live() {
+    dock=$1
+    rm -f "$out/to" "$out/from"
+    mkfifo "$out/to" "$out/from"
+    timeout 10 "$out/$dock" < "$out/to" > "$out/from" 2> "$out/acted" &
+    exec 3> "$out/to" 4< "$out/from"
+    head -c 43 "$small" >&3
+    hears "v 1 0 fffffffa"
+    tail -c +44 "$small" | head -c 4 >&3
+    hears "v 1 1 0000000a"
+    hears "v 2 0 00000000"
+    tail -c +48 "$small" >&3
+    hears "v 1 2 ffffffff"
+    hears "v 2 1 00000001"
+    hears "t 2 1"
+    exec 3>&-
+    hears "v 2 2 00000000"
+    hears "end 3"
+    exec 4<&-
+    wait $! || fail "$dock ends badly, live"
+    echo "$dock: live"
+}
+
+layout_by cc -std=c11 -x c
+layout_by clang -std=c11 -x c
+layout_by g++ -std=c++11 -x c++
+compile_c refusals tests/refusals.c
+"$out/refusals"
+compile_c sessions tests/sessions.c
+"$out/sessions" < crates/sessions/stdin > "$out/given"
+cmp crates/sessions/stdout "$out/given" || fail "an entry gives not what the by-value call gives"
+echo "sessions: the entries give what the by-value calls give"
+compile_c stack tests/stack.c
+"$out/stack" < crates/tables/stdin
+
+compile_c dock_c examples/dock.c
+rustc -O --edition 2021 --crate-type rlib --crate-name glasspuddle \
+    -L native="$(dirname "$archive")" -o "$out/libglasspuddle.rlib" examples/glasspuddle.rs
+rustc -O --edition 2021 --extern glasspuddle="$out/libglasspuddle.rlib" \
+    -o "$out/dock_rust" examples/dock.rs
+rustdoc --test --edition 2021 --crate-name glasspuddle --extern \
+    glasspuddle="$out/libglasspuddle.rlib" examples/glasspuddle.rs > "$out/rustdoc" \
+    || { cat "$out/rustdoc"; fail "the examples in glasspuddle.rs"; }
+
+cases=0
+small=examples/table_a.bin
+for example in examples/*.bin; do
+    cp "$example" "$out/input"
+    same "$example"
+done
+length=0
+while [ "$length" -le 51 ]; do
+    head -c "$length" "$small" > "$out/input"
+    same "the first $length bytes of $small"
+    length=$((length + 1))
+done
+offset=0
+while [ "$offset" -lt 36 ]; do
+    for value in 000 001 002 020 047 177 200 377; do
+        changed "$offset" "$value"
+    done
+    offset=$((offset + 1))
+done
+for head in 141 140 '140\000\000' '140\000\020' '140\001\020' '140\377\377'; do
+    printf "\\$head" > "$out/input"
+    same "the head $head, in octal"
+done
+echo "examples dock.c and dock.rs: same as the program on $cases inputs"
+live dock_c
+live dock_rust
+
+[ -x "$out/compare" ] || sh tests/build.sh
+for dock in dock_c dock_rust; do
+    echo "$dock:"
+    "$out/compare" "$out/$dock" 2> "$out/acted"
+done
