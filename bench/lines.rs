@@ -1,6 +1,8 @@
 //! The lines of the program, appended to a buffer (document 01, "The program").
 
-use crate::check::Refusal;
+use crate::check::word_at;
+use crate::output::{TRIGGER, VALUE};
+use crate::Refusal;
 
 /// A space and a decimal number.
 fn put_decimal(text: &mut Vec<u8>, number: u64) {
@@ -27,18 +29,18 @@ fn put_hex(text: &mut Vec<u8>, word: u32) {
     text.extend((0..8).map(digit));
 }
 
-/// `v stream position value`, and `t stream position` behind a trigger's true value.
-pub fn put_value(text: &mut Vec<u8>, stream: usize, position: u64, value: u32, trigger: bool) {
-    text.push(b'v');
-    put_decimal(text, stream as u64);
-    put_decimal(text, position);
-    put_hex(text, value);
-    text.push(b'\n');
-    if trigger && value != 0 {
-        text.push(b't');
+/// The lines of a call's records: `v stream position value` for a 50, `t stream position` for a 51.
+pub fn put_records(text: &mut Vec<u8>, mut records: &[u8]) {
+    while let [kind, stream, ..] = *records {
+        let value = kind == 0x50;
+        text.push(if value { b'v' } else { b't' });
         put_decimal(text, stream as u64);
-        put_decimal(text, position);
+        put_decimal(text, word_at(records, 2) as u64);
+        if value {
+            put_hex(text, word_at(records, 6));
+        }
         text.push(b'\n');
+        records = &records[if value { VALUE } else { TRIGGER }..];
     }
 }
 
@@ -58,8 +60,8 @@ pub fn put_stop(text: &mut Vec<u8>, read: u64) {
 }
 
 /// `end N`, the last line.
-pub fn put_end(text: &mut Vec<u8>, rows: u64) {
+pub fn put_end(text: &mut Vec<u8>, rows: u32) {
     text.extend_from_slice(b"end");
-    put_decimal(text, rows);
+    put_decimal(text, rows as u64);
     text.push(b'\n');
 }

@@ -1,9 +1,9 @@
 #!/bin/sh
 # The benchmark of the program, from the repository's root: sh bench/program.sh [ROWS]
-# Table A with ROWS rows (2,000,000 unless given): the program and the two baselines of bench/plain.rs
-# alternately, five times each, output to a file. Needs rustc, bash and a built target/bin/glasspuddle;
-# instructions are counted where valgrind is there. Prints a table and the ratios. Ends with 0 whatever
-# the ratios are, with 1 if the outputs differ. See docs/BENCHMARKS.md.
+# Table A with ROWS rows (2,000,000 unless given): the program and the two baselines, as programs,
+# alternately, five times each, output to a file. Needs rustc, bash and a built
+# target/bin/glasspuddle; instructions are counted where valgrind is there. Prints a table and the
+# ratios. Ends with 0 whatever the ratios are, with 1 if the outputs differ. See docs/BENCHMARKS.md.
 set -e
 rows=${1:-2000000}
 rounds=5
@@ -14,7 +14,8 @@ names="program anew once"
 [ -x target/bin/glasspuddle ] || { echo "build the program first: rt check glasspuddle"; exit 1; }
 mkdir -p "$out"
 rm -f "$out"/*.times "$out"/*.counts
-rustc -O --edition 2021 -o "$out/plain" bench/plain.rs
+rustc -O --edition 2021 --crate-type rlib -o "$out/libbaseline.rlib" bench/baseline.rs
+rustc -O --edition 2021 --extern baseline="$out/libbaseline.rlib" -o "$out/plain" bench/plain.rs
 for n in "$rows" "$counted" 0; do
     "$out/plain" input "$n" > "$out/input.$n"
 done

@@ -129,18 +129,12 @@ fn agrees(tight: &[u32; 32], most: &[u32; 32], look: &[u16; 32], kept: &[u16; 32
     true
 }
 
-// Whether the streams can be put in order, and the order.
-pub struct Order {
-    pub ok: bool,
-    pub order: [u8; 32],
-}
-
-// The streams below `s`, each behind its tight targets.
-fn ordered(tight: &[u32; 32], s: usize) -> Order
+// Whether the streams below `s` can be put in a line, each behind its tight targets; `order` is lent for it.
+fn ordered(tight: &[u32; 32], s: usize, order: &mut [u8; 32]) -> bool
     requires { ⌜ s ≤ 32 ⌝ }
-    ensures { λ r. ⌜ InLine (r .ok) (now (tight .entry)) s (r .order) ⌝ }
+    ensures { λ r. ⌜ InLine r (now (tight .entry)) s (now (order .exit)) ⌝ }
 {
-    let mut order = [0u8; 32];
+    *order = [0u8; 32];
     let mut rest: u32 = 4294967295;
     let mut n = 0;
     while n < s {
@@ -150,26 +144,26 @@ fn ordered(tight: &[u32; 32], s: usize) -> Order
             rest = rest ^ 1 << y;
             n += 1;
         } else {
-            return Order { ok: false, order };
+            return false;
         }
     }
-    Order { ok: true, order }
+    true
 }
 
-// The verdict on the record's numbers, once every equation is noted.
+// The verdict on the record's numbers, once every equation is noted; `order` is lent for the order within a turn.
 pub fn settle(
     tight: &[u32; 32],
     most: &[u32; 32],
     look: &[u16; 32],
     kept: &[u16; 32],
     s: usize,
-) -> Order
+    order: &mut [u8; 32],
+) -> bool
     requires { ⌜ s ≤ 32 ⌝ }
-    ensures { λ r. ⌜ ((es : List Edge) → Within (among es) s → Tally (among es) (of (now (look .entry))) (now (tight .entry)) (now (most .entry)) → Settled (r .ok) (among es) s (of (now (look .entry))) (of (now (kept .entry))) (r .order)) ⌝ }
+    ensures { λ r. ⌜ ((es : List Edge) → Within (among es) s → Tally (among es) (of (now (look .entry))) (now (tight .entry)) (now (most .entry)) → Settled r (among es) s (of (now (look .entry))) (of (now (kept .entry))) (now (order .exit))) ⌝ }
 {
     if agrees(tight, most, look, kept, s) {
-        return ordered(tight, s);
+        return ordered(tight, s, order);
     }
-    let order = [0u8; 32];
-    Order { ok: false, order }
+    false
 }

@@ -1,7 +1,6 @@
 pub mod Offsets
 pub mod References
 pub mod Heads
-pub mod Leaves
 pub mod Operands
 pub mod Slots
 pub mod Settles

@@ -2,10 +2,11 @@
 -- Assumes nothing.
 use mathlib.Core.Path.{_≡_, refl, sym, ap, ap₂, _∙_}
 use mathlib.Core.List.{List}
-use Prim.Native.Nat.{ℕ, _+_, _-_, _≤_}
+use Prim.Native.Nat.{ℕ, _+_, _-_}
 use native.Mathlib.Omega.{arith}
 use borrow.Author.Tests.{eq-eqb, ne-eqb}
 use lib.Dec.{eqb}
+use lib.IntN.{ℤ}
 use lib.ListN.{length, getD, take}
 use Rattle.expression.proofs.Operands.{parse-leaf, parse-operator}
 use Rattle.node.specs.Kinds.{ruleOf, meant}
@@ -18,13 +19,12 @@ use Rattle.node.specs.declared.Node.{Node}
 use Rattle.node.specs.declared.Node.the-variants.{Constant, Now, At, Operator}
 use Rattle.node.specs.Head as head
 use Rattle.value.specs.declared.Value.{Value}
-use Rattle.value.specs.Values.{applyOf, chooseOf}
+use Rattle.value.specs.Values.{readingOf, applyOf, chooseOf}
 use Rattle.lola.specs.Models.{value, refer}
-use Rattle.evaluate.specs.Evaluation.{leafOf, Readable, valueIn, evaluatedOf, Evaluates}
+use Rattle.evaluate.specs.Evaluation.{heldOf, referredOf, Readable, valueIn, evaluatedOf, Evaluates}
 use Rattle.meaning.specs.Expressions.{meaning}
 use Rattle.evaluate.specs.declared.Evaluated.{Evaluated}
-use Rattle.evaluate.proofs.Heads.{standing-at}
-use Rattle.evaluate.proofs.Leaves.{leaf-node, operator-node}
+use Rattle.evaluate.proofs.Heads.{leaf-here, operator-here}
 
 -- what `andThen` gave came from a first part that is good
 pub record Got (q : Parsed) (f : Expr → ℕ → Parsed) (e : Expr) (m : ℕ) : Type 0 where
@@ -47,12 +47,17 @@ module _ (types kept st : List ℕ) (n j : ℕ) where
   abbrev val : Expr → Value
   val = valueIn types kept st n j
 
-  value-leaf : (node : Node) → leafOf types kept st n j node ≡ val (leaf node)
-  unfolding valueIn meaning value leafOf refer
-  value-leaf (Constant t x) = refl
-  value-leaf (Now v) = refl
-  value-leaf (At v k d) = refl
-  value-leaf (Operator k) = refl
+  value-constant : (t w : ℕ) → readingOf t w ≡ val (leaf (Constant t w))
+  unfolding valueIn meaning value
+  value-constant t w = refl
+
+  value-now : (v : ℕ) → heldOf types kept st v j ≡ val (leaf (Now v))
+  unfolding valueIn meaning value refer
+  value-now v = refl
+
+  value-at : (v : ℕ) (k : ℤ) (d : ℕ) → referredOf types kept st n j v k d ≡ val (leaf (At v k d))
+  unfolding valueIn meaning value
+  value-at v k d = refl
 
   value-unary : (k : ℕ) (a : Expr) → val (unary k a) ≡ applyOf k (val a) (val a)
   unfolding valueIn meaning value
@@ -66,69 +71,67 @@ module _ (types kept st : List ℕ) (n j : ℕ) where
   unfolding valueIn meaning value
   value-ternary k a b c = refl
 
--- the node at a place where the grammar reads an expression: r is the rule of its kind, b the length of its body
-module _ {l : ℕ} {types kept parts : List ℕ} (st : List ℕ) {s : List ℕ} (n j : ℕ) {place : ℕ} (x : Readable l types kept parts (length st) s place) {r : Rule} {b : ℕ} (er : r ≡ ruleOf (getD s place 0)) (eb : b ≡ r .body) where
+-- the node that the code decodes at a place where the grammar reads an expression; m is the place behind its body
+module _ {l : ℕ} {types kept parts : List ℕ} (st : List ℕ) {s : List ℕ} (n j : ℕ) {place : ℕ} (x : Readable l types kept parts (length st) s place) {node : Node} (en : node ≡ nodeOf s (getD s place 0) (place + 1)) where
   abbrev ts : List ℕ
   ts = take (x .streams) types
 
-  abbrev k : ℕ
-  k = getD s place 0
+  abbrev Answer : Evaluated → Type 0
+  Answer e = e ≡ evaluatedOf (valueIn types kept st n j (x .expr)) (x .behind)
 
-  abbrev next : ℕ
-  next = place + 1 + b
-
-  pub body-within : next ≤ length s
-  body-within = rw (eb, er) (standing-at x .body)
-
-  head-here : headAt l ts s (x .wanted) place ≡ headOf (nodeOf s k (place + 1)) next
-  head-here = rw (eb, er) (standing-at x .is)
-
-  pub leaf-gives : {v : Value} → r .operands ≡ 0 → v ≡ leafOf types kept st n j (nodeOf s k (place + 1)) → evaluatedOf v next ≡ evaluatedOf (valueIn types kept st n j (x .expr)) (x .behind)
-  leaf-gives {v} o ev =
-      let node = nodeOf s k (place + 1) in
-      let is : headAt l ts s (x .wanted) place ≡ head.Leaf node next = head-here ∙ leaf-node s k (place + 1) (standing-at x .allowed) (rw (← er) o) next in
-      let g : good (leaf node) next ≡ good (x .expr) (x .behind) = sym (parse-leaf l ts s (x .wanted) place is) ∙ x .parsed in
-      let a : v ≡ valueIn types kept st n j (x .expr) = ev ∙ value-leaf types kept st n j node ∙ ap (valueIn types kept st n j) (sym (same-expr g)) in
+  leaf-gives : {found : Node} {v : Value} {m : ℕ} → headAt l ts s (x .wanted) place ≡ head.Leaf found m → v ≡ valueIn types kept st n j (leaf found) → Answer (evaluatedOf v m)
+  leaf-gives {found} {v} {m} is ev =
+      let g : good (leaf found) m ≡ good (x .expr) (x .behind) = sym (parse-leaf l ts s (x .wanted) place is) ∙ x .parsed in
+      let a : v ≡ valueIn types kept st n j (x .expr) = ev ∙ ap (valueIn types kept st n j) (sym (same-expr g)) in
       λ i. record { value = a i; next = sym (same-end g) i }
 
-  -- an operator
-  module _ (n0 : r .operands ≡ 0 → ⊥) where
-    operator-here : headAt l ts s (x .wanted) place ≡ head.Operator k next
+  module _ {m : ℕ} (em : m ≡ place + 1 + ruleOf (getD s place 0) .body) {v : Value} where
+    pub constant-gives : {t w : ℕ} → node ≡ Constant t w → v ≡ readingOf t w → Answer (evaluatedOf v m)
     unfolding headOf
-    operator-here = head-here ∙ rw (operator-node s k (place + 1) (rw er at n0))
+    constant-gives {t} {w} e ev = leaf-gives (leaf-here x en e refl em) (ev ∙ value-constant types kept st n j t w)
 
+    pub now-gives : {y : ℕ} → node ≡ Now y → v ≡ heldOf types kept st y j → Answer (evaluatedOf v m)
+    unfolding headOf
+    now-gives {y} e ev = leaf-gives (leaf-here x en e refl em) (ev ∙ value-now types kept st n j y)
+
+    pub at-gives : {y d : ℕ} {k : ℤ} → node ≡ At y k d → v ≡ referredOf types kept st n j y k d → Answer (evaluatedOf v m)
+    unfolding headOf
+    at-gives {y} {d} {k} e ev = leaf-gives (leaf-here x en e refl em) (ev ∙ value-at types kept st n j y k d)
+
+  -- an operator of the kind k, and its rule
+  module _ {k : ℕ} (e : node ≡ Operator k) {r : Rule} (er : r ≡ ruleOf k) {m : ℕ} (em : m ≡ place + 1 + ruleOf k .body) where
     abbrev q : ℕ → ℕ → Parsed
-    q v m = parse (l - 1) ts s v m
+    q v at = parse (l - 1) ts s v at
 
     abbrev third : Expr → Expr → Expr → ℕ → Parsed
-    third a b c m = good (ternary k a b c) m
+    third a b c at = good (ternary k a b c) at
 
     abbrev second : Expr → Expr → ℕ → Parsed
-    second a b m = orElse (eqb (r .operands) 2) (good (binary k a b) m) λ _. andThen (q (meant (r .rest) (x .wanted)) m) (third a b)
+    second a b at = orElse (eqb (r .operands) 2) (good (binary k a b) at) λ _. andThen (q (meant (r .rest) (x .wanted)) at) (third a b)
 
     abbrev first : Expr → ℕ → Parsed
-    first a m = orElse (eqb (r .operands) 1) (good (unary k a) m) λ _. andThen (q (meant (r .rest) (x .wanted)) m) (second a)
+    first a at = orElse (eqb (r .operands) 1) (good (unary k a) at) λ _. andThen (q (meant (r .rest) (x .wanted)) at) (second a)
 
-    in-order : andThen (q (meant (r .first) (x .wanted)) next) first ≡ good (x .expr) (x .behind)
+    in-order : andThen (q (meant (r .first) (x .wanted)) m) first ≡ good (x .expr) (x .behind)
     unfolding operands
     in-order =
-        let whole : operands q (x .wanted) k (ruleOf k) next ≡ good (x .expr) (x .behind) = sym (parse-operator l ts s (x .wanted) place operator-here) ∙ x .parsed in
+        let whole : operands q (x .wanted) k (ruleOf k) m ≡ good (x .expr) (x .behind) = sym (parse-operator l ts s (x .wanted) place (operator-here x en e em)) ∙ x .parsed in
         rw (← er) at whole
 
-    pub one : Got (q (meant (r .first) (x .wanted)) next) first (x .expr) (x .behind)
+    pub one : Got (q (meant (r .first) (x .wanted)) m) first (x .expr) (x .behind)
     one = then-good _ _ _ _ in-order
 
-    abbrev pub first-readable : Readable (l - 1) types kept parts (length st) s next
+    abbrev pub first-readable : Readable (l - 1) types kept parts (length st) s m
     first-readable = record { streams = x .streams; wanted = meant (r .first) (x .wanted); expr = one .a; behind = one .n; few = x .few; part = x .part; parsed = one .is }
 
-    module _ {r1 : Evaluated} (h1 : Evaluates (l - 1) types kept parts st s n j next r1) where
+    module _ {r1 : Evaluated} (h1 : Evaluates (l - 1) types kept parts st s n j m r1) where
       first-value : r1 .value ≡ valueIn types kept st n j (one .a)
       first-value = ap (λ (z : Evaluated). z .value) (h1 first-readable)
 
       first-end : r1 .next ≡ one .n
       first-end = ap (λ (z : Evaluated). z .next) (h1 first-readable)
 
-      pub one-gives : {v : Value} → r .operands ≡ 1 → v ≡ applyOf k (r1 .value) (r1 .value) → evaluatedOf v (r1 .next) ≡ evaluatedOf (valueIn types kept st n j (x .expr)) (x .behind)
+      pub one-gives : {v : Value} → r .operands ≡ 1 → v ≡ applyOf k (r1 .value) (r1 .value) → Answer (evaluatedOf v (r1 .next))
       one-gives {v} o1 ev =
           let g : good (unary k (one .a)) (one .n) ≡ good (x .expr) (x .behind) = rw (eq-eqb _ _ o1) at (one .rest) in
           let a : v ≡ valueIn types kept st n j (x .expr)
@@ -152,7 +155,7 @@ module _ {l : ℕ} {types kept parts : List ℕ} (st : List ℕ) {s : List ℕ} 
           second-end : r2 .next ≡ two .n
           second-end = ap (λ (z : Evaluated). z .next) (h2 second-readable)
 
-          pub two-give : {v : Value} → r .operands ≡ 2 → v ≡ applyOf k (r1 .value) (r2 .value) → evaluatedOf v (r2 .next) ≡ evaluatedOf (valueIn types kept st n j (x .expr)) (x .behind)
+          pub two-give : {v : Value} → r .operands ≡ 2 → v ≡ applyOf k (r1 .value) (r2 .value) → Answer (evaluatedOf v (r2 .next))
           two-give {v} o2 ev =
               let g : good (binary k (one .a) (two .a)) (two .n) ≡ good (x .expr) (x .behind) = rw (eq-eqb _ _ o2) at (two .rest) in
               let a : v ≡ valueIn types kept st n j (x .expr)
@@ -176,7 +179,7 @@ module _ {l : ℕ} {types kept parts : List ℕ} (st : List ℕ) {s : List ℕ} 
               third-end : r3 .next ≡ three .n
               third-end = ap (λ (z : Evaluated). z .next) (h3 third-readable)
 
-              pub three-give : {v : Value} → v ≡ chooseOf (r1 .value) (r2 .value) (r3 .value) → evaluatedOf v (r3 .next) ≡ evaluatedOf (valueIn types kept st n j (x .expr)) (x .behind)
+              pub three-give : {v : Value} → v ≡ chooseOf (r1 .value) (r2 .value) (r3 .value) → Answer (evaluatedOf v (r3 .next))
               three-give {v} ev =
                   let a : v ≡ valueIn types kept st n j (x .expr)
                   = ev ∙ (λ i. chooseOf (first-value i) (second-value i) (third-value i)) ∙ sym (value-ternary types kept st n j k (one .a) (two .a) (three .a)) ∙ ap (valueIn types kept st n j) (sym (same-expr (three .rest))) in

@@ -2,19 +2,13 @@
 -- `parts` hold a number for each stream, n is the number of rows known, j the position. Assumes nothing.
 use Prim.Native.Nat.{ℕ, _+_, _%_, _≤_, _<_}
 use mathlib.Core.Path.{_≡_}
-use mathlib.Core.Bool.{false}
 use mathlib.Core.List.{List}
 use lib.IntN.{ℤ}
 use lib.ListN.{length, getD, take}
 use Rattle.value.specs.declared.Value.{Value}
-use Rattle.value.specs.declared.Value.the-variants.{Flag}
 use Rattle.value.specs.Values.{readingOf}
-use Rattle.node.specs.declared.Node.{Node}
-use Rattle.node.specs.declared.Node.the-variants.{Constant, Now, At, Operator}
 use Rattle.expression.specs.Syntax.{Expr}
 use Rattle.expression.specs.Grammar.{good, parse}
-use Rattle.node.specs.Kinds.{ruleOf}
-use Rattle.node.specs.Node.{nodeOf}
 use Rattle.lola.specs.Expressions.{at}
 use Rattle.meaning.specs.Expressions.{ops, meaning}
 use Rattle.lola.specs.Models.{value, refer}
@@ -43,25 +37,6 @@ pub record PartIn (kept parts : List ℕ) (n v : ℕ) : Type 0 where
 -- "at(v, k) at position j is v at j+k, or the default where j+k is below 0 or not below N": d is the default's word
 abbrev pub referredOf : (types kept st : List ℕ) (n j v : ℕ) → ℤ → ℕ → Value
 referredOf types kept st n j v k d = refer (heldOf types kept st) n j (at v k (readingOf (getD types v 0) d))
-
--- the value of a constant or a reference at position j. An operator is no leaf.
-unfoldable pub leafOf : (types kept st : List ℕ) (n j : ℕ) → Node → Value
-leafOf types kept st n j (Constant t x) = readingOf t x
-leafOf types kept st n j (Now v) = heldOf types kept st v j
-leafOf types kept st n j (At v k d) = referredOf types kept st n j v k d
-leafOf types kept st n j (Operator k) = Flag false
-
--- the stream that a node names is one of the 32, with its part in a store of n words
-abbrev pub NamedIn : (kept parts : List ℕ) (n : ℕ) → Node → Type 0
-NamedIn kept parts n (Constant t x) = Unit {0}
-NamedIn kept parts n (Now v) = (v < 32) × PartIn kept parts n v
-NamedIn kept parts n (At v k d) = (v < 32) × PartIn kept parts n v
-NamedIn kept parts n (Operator k) = Unit {0}
-
--- a node of a kind whose body starts at a place of the table s: the body is all there, and the stream that it names has its part
-pub record NodeIn (kept parts : List ℕ) (n : ℕ) (s : List ℕ) (kind place : ℕ) : Type 0 where
-  pub body : place + ruleOf kind .body ≤ length s
-  pub named : NamedIn kept parts n (nodeOf s kind place)
 
 -- the grammar reads an expression at a place of the table s with l levels left, and each of its streams has its part in a store of n words
 pub record Readable (l : ℕ) (types kept parts : List ℕ) (n : ℕ) (s : List ℕ) (place : ℕ) : Type 0 where

@@ -4,8 +4,8 @@ ghost use mathlib.Core.Path.{_≡_};
 ghost use Prim.Native.Nat.{_+_, _%_, _≤_, _<_, _^_};
 ghost use lib.ListN.{length, getD, set};
 ghost use Rattle.basis.specs.Parts.{up, down};
-ghost use Rattle.node.specs.Node.{nodeOf};
-ghost use Rattle.evaluate.specs.Evaluation.{slotOf, heldOf, referredOf, PartIn, leafOf, NodeIn, Readable, Evaluates};
+ghost use Rattle.node.specs.Kinds.{ruleOf};
+ghost use Rattle.evaluate.specs.Evaluation.{slotOf, heldOf, referredOf, PartIn, Readable, evaluatedOf, Evaluates};
 ghost use Rattle.evaluate.specs.Turns.{Ready, Fresh, Settles, Turns};
 use node::Node;
 use value::Value;
@@ -88,37 +88,32 @@ fn referred(
     value::reading(types[v], word)
 }
 
-// The value of the constant or reference of the kind `kind` whose body starts at `at`. An operator is no leaf.
-fn leaf(
-    bytes: &[u8],
-    store: &[u32],
-    types: &[u8; 32],
-    kept: &[u16; 32],
-    parts: &[u16; 32],
-    known: u64,
-    j: u64,
-    kind: u8,
-    at: usize,
-) -> Value
-    requires { ⌜ (j + 128 < 2 ^ 64) × NodeIn (now kept) (now parts) (length (now store)) (now bytes) kind at ⌝ }
-    ensures { λ r. ⌜ r ≡ leafOf (now (types .entry)) (now (kept .entry)) (now (store .entry)) known j (nodeOf (now (bytes .entry)) kind at) ⌝ }
-{
-    match node::node_of(bytes, kind, at) {
-        Node::Constant(t, w) => value::reading(t, w),
-        Node::Now(v) => held(store, types, kept, parts, size(v), j),
-        Node::At(v, k, w) => referred(store, types, kept, parts, known, j, size(v), k, w),
-        Node::Operator(_) => Value::Flag(false),
-    }
-}
-
 // An expression's value, and the place behind the expression.
 pub struct Evaluated {
     pub value: Value,
     pub next: usize,
 }
 
-// The expression at `at`, with `levels` levels left. The rule tells a leaf from an operator: an enum that told it would hold the leaf's value
-// too, and be copied through memory at each node.
+// The same, made of its two parts.
+fn valued(value: Value, next: usize) -> Evaluated
+    ensures { λ r. ⌜ r ≡ evaluatedOf value next ⌝ }
+{
+    Evaluated {
+        value: value,
+        next: next,
+    }
+}
+
+// The place behind the body of a node of the kind `kind`, whose body starts at `start`.
+fn behind(kind: u8, start: usize) -> usize
+    requires { ⌜ start + ruleOf kind .body < 2 ^ 64 ⌝ }
+    ensures { λ r. ⌜ r ≡ start + ruleOf kind .body ⌝ }
+{
+    start + size(node::rule_of(kind).body)
+}
+
+// The expression at `at`, with `levels` levels left. The node is an enum, and "the checker's and evaluator's decision goes over it". Each arm
+// looks up the rule for itself, since the compiler knows the kind there.
 fn eval(
     bytes: &[u8],
     store: &[u32],
@@ -134,37 +129,35 @@ fn eval(
     ensures { λ r. ⌜ Evaluates levels (now (types .entry)) (now (kept .entry)) (now (parts .entry)) (now (store .entry)) (now (bytes .entry)) known j at r ⌝ }
 {
     let kind = bytes[at];
-    let rule = node::rule_of(kind);
     let start = at + 1;
-    let next = start + size(rule.body);
-    if rule.operands == 0 {
-        return Evaluated {
-            value: leaf(bytes, store, types, kept, parts, known, j, kind, start),
-            next: next,
-        };
-    }
-    let left = levels - 1;
-    let one = eval(bytes, store, types, kept, parts, known, j, next, left);
-    let a = one.value;
-    if rule.operands == 1 {
-        return Evaluated {
-            value: value::apply(kind, a, a),
-            next: one.next,
-        };
-    }
-    let two = eval(bytes, store, types, kept, parts, known, j, one.next, left);
-    let b = two.value;
-    if rule.operands == 2 {
-        return Evaluated {
-            value: value::apply(kind, a, b),
-            next: two.next,
-        };
-    }
-    let three = eval(bytes, store, types, kept, parts, known, j, two.next, left);
-    let c = three.value;
-    Evaluated {
-        value: value::choose(a, b, c),
-        next: three.next,
+    match node::node_of(bytes, kind, start) {
+        Node::Constant(t, w) => valued(value::reading(t, w), behind(kind, start)),
+        Node::Now(v) => {
+            let value = held(store, types, kept, parts, size(v), j);
+            valued(value, behind(kind, start))
+        }
+        Node::At(v, k, w) => {
+            let value = referred(store, types, kept, parts, known, j, size(v), k, w);
+            valued(value, behind(kind, start))
+        }
+        Node::Operator(op) => {
+            let operands = node::rule_of(op).operands;
+            let next = behind(op, start);
+            let left = levels - 1;
+            let one = eval(bytes, store, types, kept, parts, known, j, next, left);
+            let a = one.value;
+            if operands == 1 {
+                return valued(value::apply(op, a, a), one.next);
+            }
+            let two = eval(bytes, store, types, kept, parts, known, j, one.next, left);
+            let b = two.value;
+            if operands == 2 {
+                return valued(value::apply(op, a, b), two.next);
+            }
+            let three = eval(bytes, store, types, kept, parts, known, j, two.next, left);
+            let c = three.value;
+            valued(value::choose(a, b, c), three.next)
+        }
     }
 }
 

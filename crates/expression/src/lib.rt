@@ -76,43 +76,42 @@ pub fn scan_expr(
 {
     match node::node_at(table, at) {
         NodeRead::Fault(no) => Scanned::Refused(no, at),
-        NodeRead::Got(node, next) => {
-            if levels == 0 {
-                return Scanned::Refused(6, at);
-            }
-            let no = node::fault_of(node, types, streams, wanted);
-            if no != 0 {
-                return Scanned::Refused(no, at);
-            }
-            match node {
-                Node::Operator(kind) => {
-                    let rule = node::rule_of(kind);
-                    let first = node::meant_type(rule.first, wanted);
-                    let rest = node::meant_type(rule.rest, wanted);
-                    let left = levels - 1;
-                    match scan_expr(table, types, streams, first, next, left, rise, fall) {
-                        Scanned::Refused(no, place) => Scanned::Refused(no, place),
-                        Scanned::Ends(second) => {
-                            if rule.operands == 1 {
-                                return Scanned::Ends(second);
-                            }
-                            match scan_expr(table, types, streams, rest, second, left, rise, fall) {
-                                Scanned::Refused(no, place) => Scanned::Refused(no, place),
-                                Scanned::Ends(third) => {
-                                    if rule.operands == 2 {
-                                        return Scanned::Ends(third);
-                                    }
-                                    scan_expr(table, types, streams, rest, third, left, rise, fall)
+        NodeRead::Got(node, next) => match node {
+            Node::Operator(kind) => {
+                let no = node::fault_at(node, types, streams, wanted, levels);
+                if no != 0 {
+                    return Scanned::Refused(no, at);
+                }
+                let rule = node::rule_of(kind);
+                let first = node::meant_type(rule.first, wanted);
+                let rest = node::meant_type(rule.rest, wanted);
+                let left = levels - 1;
+                match scan_expr(table, types, streams, first, next, left, rise, fall) {
+                    Scanned::Refused(no, place) => Scanned::Refused(no, place),
+                    Scanned::Ends(second) => {
+                        if rule.operands == 1 {
+                            return Scanned::Ends(second);
+                        }
+                        match scan_expr(table, types, streams, rest, second, left, rise, fall) {
+                            Scanned::Refused(no, place) => Scanned::Refused(no, place),
+                            Scanned::Ends(third) => {
+                                if rule.operands == 2 {
+                                    return Scanned::Ends(third);
                                 }
+                                scan_expr(table, types, streams, rest, third, left, rise, fall)
                             }
                         }
                     }
                 }
-                _ => {
-                    note(rise, fall, node);
-                    Scanned::Ends(next)
-                }
             }
-        }
+            _ => {
+                let no = node::fault_at(node, types, streams, wanted, levels);
+                if no != 0 {
+                    return Scanned::Refused(no, at);
+                }
+                note(rise, fall, node);
+                Scanned::Ends(next)
+            }
+        },
     }
 }

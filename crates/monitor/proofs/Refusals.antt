@@ -12,15 +12,14 @@ use Rattle.basis.proofs.Tests.{true-false, and-true}
 use Rattle.table.specs.Table.{Decoded}
 use Rattle.announce.specs.declared.Checked.{Checked}
 use Rattle.announce.specs.Announced.{announced}
-use Rattle.plan.specs.declared.Plan.{Plan}
 use Rattle.plan.specs.PlanFor.{tableIn, tableFor, firstBad}
-use Rattle.plan.specs.Planning.{Plans, Planning}
+use Rattle.plan.specs.Planning.{Plan, Plans, Planning}
 use Rattle.plan.proofs.Held.{types-held}
 use Rattle.monitor.specs.declared.Phase.{Phase}
 use Rattle.monitor.specs.declared.Phase.the-variants.{Reading, Draining, Over}
 use Rattle.monitor.specs.declared.Run.{Run}
 use Rattle.monitor.specs.declared.Fault.{Fault}
-use Rattle.monitor.specs.Refusals.{fault, fine, refuseIf, afterTable, eqbs, phaseAgrees, recordAgrees, ofTable, isReading, isDraining, openFault, closeRefusal, closeFault, rowRefusal, rowFault, drainRefusal, drainFault, agreesWith, rowTests, drainTests}
+use Rattle.monitor.specs.Refusals.{fault, fine, refuseIf, afterTable, eqbs, phaseAgrees, recordAgrees, ofTable, isReading, isDraining, openFault, closeRefusal, closeFault, rowRefusal, rowFault, drainRefusal, drainFault}
 
 -- ---- the table and the record's numbers
 
@@ -78,17 +77,20 @@ first-bad-same ts us ws h zero x = refl
 first-bad-same ts us ws h (suc k) x = λ i. cond (eqb (h x i) 0 && ltb 1 (getD ws x 0)) x (first-bad-same ts us ws h k (suc x) i)
 
 -- ---- by a plan: the record's numbers are those announced
+abbrev agreesBy : Run → Plan → Bool
+agreesBy r p = recordAgrees (r .phase) (r .rows) (r .done) (p .closing)
+
 module _ {s : List ℕ} (r : Run) {p : Plan} (x : Plans s (r .look) (r .kept) p) where
-  of-table : ofTable r (announced s) ≡ agreesWith r p
+  of-table : ofTable r (announced s) ≡ agreesBy r p
   unfolding ofTable
   of-table =
       rw (x .look-is, x .kept-is, eqbs-same (r .look), eqbs-same (r .kept))
       (ap (recordAgrees (r .phase) (r .rows) (r .done)) (sym (x .closing-is)))
 
-  pub close-planned : closeFault s r ≡ closeRefusal (agreesWith r p) (r .phase)
+  pub close-planned : closeFault s r ≡ closeRefusal (agreesBy r p) (r .phase)
   close-planned = table-passed s _ (x .accepted) ∙ ap (λ (b : Bool). closeRefusal b (r .phase)) of-table
 
-  pub drain-planned : (lent space : ℕ) → drainFault s r lent space ≡ drainTests r p lent space
+  pub drain-planned : (lent space : ℕ) → drainFault s r lent space ≡ drainRefusal (agreesBy r p) (r .phase) (p .words) (p .room) lent space
   drain-planned lent space =
       table-passed s _ (x .accepted) ∙ (λ i. drainRefusal (of-table i) (r .phase) (sym (x .words-are) i) (sym (x .room-is) i) lent space)
 
@@ -101,7 +103,7 @@ module _ {s : List ℕ} (r : Run) {p : Plan} (x : Plans s (r .look) (r .kept) p)
   bad-same : (ws : List ℕ) → firstBad (tableFor s .types) ws (tableFor s .inputs) 0 ≡ firstBad (p .types) ws (p .inputs) 0
   bad-same ws = first-bad-same (tableFor s .types) (p .types) ws types-same (tableFor s .inputs) 0 ∙ ap (λ (n : ℕ). firstBad (p .types) ws n 0) inputs-same
 
-  pub row-planned : (lent : ℕ) (ws : List ℕ) (space : ℕ) → rowFault s r lent ws space ≡ rowTests r p lent ws space
+  pub row-planned : (lent : ℕ) (ws : List ℕ) (space : ℕ) → rowFault s r lent ws space ≡ rowRefusal (agreesBy r p) (r .phase) (r .rows) (p .words) (p .room) (p .inputs) (firstBad (p .types) ws (p .inputs) 0) lent (length ws) space
   row-planned lent ws space =
       table-passed s _ (x .accepted)
       ∙ (λ i. rowRefusal (of-table i) (r .phase) (r .rows) (sym (x .words-are) i) (sym (x .room-is) i) (inputs-same i) (bad-same ws i) lent (length ws) space)

@@ -20,9 +20,8 @@ use Rattle.lola.proofs.Stores.{write-at}
 use Rattle.evaluate.specs.Turns.{Turns}
 use Rattle.output.specs.Encoding.{valueRecord, triggerRecord, recordOf, encode, wordOn, outputOf, Emitted}
 use Rattle.certificate.specs.Certificate.{of}
-use Rattle.plan.specs.declared.Plan.{Plan}
 use Rattle.plan.specs.PlanFor.{tableIn, tableFor}
-use Rattle.plan.specs.Planning.{Plans}
+use Rattle.plan.specs.Planning.{Plan, Plans}
 use Rattle.plan.proofs.Held.{roles-held, some-held, held-plan, plan-held, part-held, ready}
 use Rattle.monitor.specs.Turns.{inWords, bytesOn, Turned}
 

@@ -7,7 +7,7 @@ use lib.Dec.{eqb, ltb, leb}
 use lib.ListN.{length}
 use Rattle.announce.specs.declared.Checked.{Checked}
 use Rattle.announce.specs.Announced.{announced}
-use Rattle.plan.specs.declared.Plan.{Plan}
+use Rattle.plan.specs.declared.Sums.{Sums}
 use Rattle.plan.specs.PlanFor.{tableFor, firstBad}
 use Rattle.monitor.specs.declared.Phase.{Phase}
 use Rattle.monitor.specs.declared.Phase.the-variants.{Reading, Draining, Over}
@@ -101,13 +101,13 @@ drainFault s r lent space =
     let c = announced s in
     afterTable s (drainRefusal (ofTable r c) (r .phase) (c .words) (c .room) lent space)
 
--- the same by a plan, where the record's numbers are those announced
-abbrev pub agreesWith : Run → Plan → Bool
+-- the same by a plan's sums and types, where the record's numbers are those announced
+abbrev pub agreesWith : Run → Sums → Bool
 agreesWith r p = recordAgrees (r .phase) (r .rows) (r .done) (p .closing)
 
-abbrev pub rowTests : Run → Plan → (lent : ℕ) (ws : List ℕ) (space : ℕ) → Fault
-rowTests r p lent ws space =
-    rowRefusal (agreesWith r p) (r .phase) (r .rows) (p .words) (p .room) (p .inputs) (firstBad (p .types) ws (p .inputs) 0) lent (length ws) space
+abbrev pub rowTests : Run → Sums → (types : List ℕ) (lent : ℕ) (ws : List ℕ) (space : ℕ) → Fault
+rowTests r p types lent ws space =
+    rowRefusal (agreesWith r p) (r .phase) (r .rows) (p .words) (p .room) (p .inputs) (firstBad types ws (p .inputs) 0) lent (length ws) space
 
-abbrev pub drainTests : Run → Plan → (lent space : ℕ) → Fault
+abbrev pub drainTests : Run → Sums → (lent space : ℕ) → Fault
 drainTests r p lent space = drainRefusal (agreesWith r p) (r .phase) (p .words) (p .room) lent space

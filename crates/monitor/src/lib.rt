@@ -6,11 +6,11 @@ ghost use mathlib.Core.List.{_++_};
 ghost use Prim.Native.Nat.{_+_, _≤_, _<_, _^_};
 ghost use lib.ListN.{length, drop, replicate};
 ghost use Rattle.plan.specs.PlanFor.{firstBad};
-ghost use Rattle.plan.specs.Planning.{Plans};
+ghost use Rattle.plan.specs.Planning.{planBy, Plans};
 ghost use Rattle.monitor.specs.Turns.{Turned};
 ghost use Rattle.monitor.specs.Refusals.{fault, afterTable, recordAgrees, isReading, isDraining, closeRefusal, rowTests, drainTests};
 ghost use Rattle.monitor.specs.Calls.{refusedWith, zeroRun, closedPhase, drainedPhase, openCall, rowCall, closeCall, drainCall, Leaves, Opens};
-use plan::Plan;
+use plan::Sums;
 
 pub enum Phase {
     Reading,
@@ -123,9 +123,9 @@ fn draining(phase: Phase) -> bool
 }
 
 // The first input flag with a word above 1, or the number of inputs.
-fn first_bad(row: &[u32], types: [u8; 32], inputs: usize) -> usize
+fn first_bad(row: &[u32], types: &[u8; 32], inputs: usize) -> usize
     requires { ⌜ (inputs ≤ 32) × (inputs ≤ length (now row)) ⌝ }
-    ensures { λ r. ⌜ r ≡ firstBad types (now (row .entry)) inputs 0 ⌝ }
+    ensures { λ r. ⌜ r ≡ firstBad (now (types .entry)) (now (row .entry)) inputs 0 ⌝ }
 {
     let mut i: usize = 0;
     while i < inputs {
@@ -153,9 +153,14 @@ pub fn foreign(table: &[u8]) -> Fault
 
 // Turn t, where `known` rows are known: the store, then the output; the number of bytes.
 fn turn_out(
-    plan: Plan,
+    plan: Sums,
     look: &[u16; 32],
     kept: &[u16; 32],
+    types: &[u8; 32],
+    roles: &[u8; 32],
+    starts: &[u16; 32],
+    parts: &[u16; 32],
+    order: &[u8; 32],
     table: &[u8],
     store: &mut [u32],
     row: &[u32],
@@ -163,26 +168,21 @@ fn turn_out(
     known: u64,
     t: u64,
 ) -> usize
-    requires { ⌜ Plans (now table) (now look) (now kept) plan × ((plan .words ≤ length (now store)) × ((plan .room ≤ length (now out)) × ((t + 128 < 2 ^ 64) × ((known < 2 ^ 32) × (t < known → plan .inputs ≤ length (now row)))))) ⌝ }
+    requires { ⌜ Plans (now table) (now look) (now kept) (planBy plan (now types) (now roles) (now starts) (now parts) (now order)) × ((plan .words ≤ length (now store)) × ((plan .room ≤ length (now out)) × ((t + 128 < 2 ^ 64) × ((known < 2 ^ 32) × (t < known → plan .inputs ≤ length (now row)))))) ⌝ }
     ensures { λ r. ⌜ Turned (now (table .entry)) known t (now (row .entry)) (now (store .entry)) (now (out .entry)) (now (store .exit)) (now (out .exit)) r ⌝ }
 {
-    let types = plan.types;
-    let roles = plan.roles;
-    let parts = plan.parts;
-    let starts = plan.starts;
-    let order = plan.order;
     let inputs = plan.inputs;
     let streams = plan.streams;
     evaluate::turn(
         table,
         store,
         row,
-        &types,
+        types,
         look,
         kept,
-        &parts,
-        &starts,
-        &order,
+        parts,
+        starts,
+        order,
         inputs,
         streams,
         known,
@@ -191,10 +191,10 @@ fn turn_out(
     output::emit(
         store,
         out,
-        &roles,
+        roles,
         look,
         kept,
-        &parts,
+        parts,
         inputs,
         streams,
         known,
@@ -248,13 +248,19 @@ pub fn open(table: &[u8], store: &mut [u32]) -> Answer
 
 impl Run {
     // The refusals 10 to 16, in order.
-    fn row_fault(self, plan: Plan, lent: usize, row: &[u32], space: usize) -> Fault
+    fn row_fault(
+        self,
+        plan: Sums,
+        types: &[u8; 32],
+        lent: usize,
+        row: &[u32],
+        space: usize,
+    ) -> Fault
         requires { ⌜ plan .inputs ≤ 32 ⌝ }
-        ensures { λ r. ⌜ r ≡ rowTests self plan lent (now (row .entry)) space ⌝ }
+        ensures { λ r. ⌜ r ≡ rowTests self plan (now (types .entry)) lent (now (row .entry)) space ⌝ }
     {
         let phase = self.phase;
         if agrees(phase, self.rows, self.done, plan.closing) {
-            let types = plan.types;
             let inputs = plan.inputs;
             if lent < plan.words {
                 return fault_of(11, 0);
@@ -289,12 +295,41 @@ impl Run {
     {
         let look = self.look;
         let kept = self.kept;
-        let plan = plan::plan_of(table, look, kept);
+        let mut types = [0u8; 32];
+        let mut roles = [0u8; 32];
+        let mut starts = [0u16; 32];
+        let mut parts = [0u16; 32];
+        let mut order = [0u8; 32];
+        let plan = plan::plan_of(
+            table,
+            &look,
+            &kept,
+            &mut types,
+            &mut roles,
+            &mut starts,
+            &mut parts,
+            &mut order,
+        );
         if plan.ok {
-            let f = self.row_fault(plan, store.len(), row, out.len());
+            let f = self.row_fault(plan, &types, store.len(), row, out.len());
             if f.number == 0 {
                 let t = wide(self.rows);
-                let count = turn_out(plan, &look, &kept, table, store, row, out, t + 1, t);
+                let count = turn_out(
+                    plan,
+                    &look,
+                    &kept,
+                    &types,
+                    &roles,
+                    &starts,
+                    &parts,
+                    &order,
+                    table,
+                    store,
+                    row,
+                    out,
+                    t + 1,
+                    t,
+                );
                 let run = Run {
                     look: look,
                     kept: kept,
@@ -369,7 +404,21 @@ impl Run {
     {
         let look = self.look;
         let kept = self.kept;
-        let plan = plan::plan_of(table, look, kept);
+        let mut types = [0u8; 32];
+        let mut roles = [0u8; 32];
+        let mut starts = [0u16; 32];
+        let mut parts = [0u16; 32];
+        let mut order = [0u8; 32];
+        let plan = plan::plan_of(
+            table,
+            &look,
+            &kept,
+            &mut types,
+            &mut roles,
+            &mut starts,
+            &mut parts,
+            &mut order,
+        );
         if plan.ok {
             let f = self.close_fault(plan.closing);
             if f.number == 0 {
@@ -396,7 +445,7 @@ impl Run {
     }
 
     // The refusals 10, 11, 12 and 16, in order.
-    fn drain_fault(self, plan: Plan, lent: usize, space: usize) -> Fault
+    fn drain_fault(self, plan: Sums, lent: usize, space: usize) -> Fault
         ensures { λ r. ⌜ r ≡ drainTests self plan lent space ⌝ }
     {
         let phase = self.phase;
@@ -423,13 +472,42 @@ impl Run {
     {
         let look = self.look;
         let kept = self.kept;
-        let plan = plan::plan_of(table, look, kept);
+        let mut types = [0u8; 32];
+        let mut roles = [0u8; 32];
+        let mut starts = [0u16; 32];
+        let mut parts = [0u16; 32];
+        let mut order = [0u8; 32];
+        let plan = plan::plan_of(
+            table,
+            &look,
+            &kept,
+            &mut types,
+            &mut roles,
+            &mut starts,
+            &mut parts,
+            &mut order,
+        );
         if plan.ok {
             let f = self.drain_fault(plan, store.len(), out.len());
             if f.number == 0 {
                 let known = wide(self.rows);
                 let t = known + evaluate::wide(self.done);
-                let count = turn_out(plan, &look, &kept, table, store, &[], out, known, t);
+                let count = turn_out(
+                    plan,
+                    &look,
+                    &kept,
+                    &types,
+                    &roles,
+                    &starts,
+                    &parts,
+                    &order,
+                    table,
+                    store,
+                    &[],
+                    out,
+                    known,
+                    t,
+                );
                 let done = one_more(self.done, plan.closing);
                 let phase = drained_phase(done, plan.closing);
                 let run = Run {

@@ -23,10 +23,6 @@ leaf-head (Now v) next h = refl
 leaf-head (At v k d) next h = refl
 leaf-head (Operator k) next h = absurd (⊎-elim (λ e. omega arith) (⊎-elim (λ e. omega arith) (λ e. omega arith)) h)
 
-operator-head : {n : Node} {k next : ℕ} → n ≡ Operator k → headOf n next ≡ head.Operator k next
-unfolding headOf
-operator-head e = rw e
-
 -- a node without a fault has a level left, and none of its own
 pub faultless : (l : ℕ) (ts : List ℕ) (w : ℕ) (n : Node) → faultAt l ts w n ≡ 0 → (1 ≤ l) × (faultOf ts w n ≡ 0)
 unfolding faultAt
@@ -38,23 +34,24 @@ module _ (l : ℕ) (ts s : List ℕ) (w at : ℕ) where
   unfolding headAt headBy
   missing e = rw e
 
-  module _ {n : Node} {next : ℕ} (e : nodeAt s at ≡ Got n next) where
-    pub too-deep : l ≡ 0 → headAt l ts s w at ≡ head.Refused 6
-    unfolding headAt headBy faultAt
-    too-deep z = rw (e, z)
+  -- a node n, whose fault is a
+  module _ {n : Node} {next a : ℕ} (e : nodeAt s at ≡ Got n next) (f : a ≡ faultAt l ts w n) where
+    pub refused : (a ≡ 0 → ⊥) → headAt l ts s w at ≡ head.Refused a
+    unfolding headAt headBy
+    refused b = rw (e, ← f, ne-eqb _ _ b)
 
-    -- with a level left, and a fault a of its own
-    module _ {a : ℕ} (z : l ≡ 0 → ⊥) (f : a ≡ faultOf ts w n) where
-      pub refused : (a ≡ 0 → ⊥) → headAt l ts s w at ≡ head.Refused a
-      unfolding headAt headBy faultAt
-      refused b = rw (e, ne-eqb _ _ z, ← f, ne-eqb _ _ b)
+    whole : a ≡ 0 → headAt l ts s w at ≡ headOf n next
+    unfolding headAt headBy
+    whole b = rw (e, ← f, eq-eqb _ _ b)
 
-      whole : a ≡ 0 → headAt l ts s w at ≡ headOf n next
-      unfolding headAt headBy faultAt
-      whole b = rw (e, ne-eqb _ _ z, ← f, eq-eqb _ _ b)
+    pub is-leaf : a ≡ 0 → OneOf (0 ∷ 1 ∷ 2 ∷ []) (tagOf the-type n) → headAt l ts s w at ≡ head.Leaf n next
+    is-leaf b h = whole b ∙ leaf-head n next h
 
-      pub is-leaf : a ≡ 0 → OneOf (0 ∷ 1 ∷ 2 ∷ []) (tagOf the-type n) → headAt l ts s w at ≡ head.Leaf n next
-      is-leaf b h = whole b ∙ leaf-head n next h
+  -- an operator, whose fault is a
+  module _ {n : Node} {next k a : ℕ} (e : nodeAt s at ≡ Got n next) (q : n ≡ Operator k) (f : a ≡ faultAt l ts w (Operator k)) where
+    pub operator-refused : (a ≡ 0 → ⊥) → headAt l ts s w at ≡ head.Refused a
+    operator-refused = refused (rw q at e) f
 
-      pub is-operator : {k : ℕ} → a ≡ 0 → n ≡ Operator k → headAt l ts s w at ≡ head.Operator k next
-      is-operator b h = whole b ∙ operator-head h
+    pub is-operator : a ≡ 0 → headAt l ts s w at ≡ head.Operator k next
+    unfolding headOf
+    is-operator = whole (rw q at e) f

@@ -33,11 +33,13 @@ nodeOf s k at =
     (cond (eqb k 0x14) (At (getD s at 0) (signedOf (getD s (at + 1) 0)) (wordAt s (at + 2)))
     (Operator k)))))
 
+-- the node of the kind k whose body of b bytes starts at a place, with the place behind it; 2 where the body is missing
+abbrev pub wholeAt : List ℕ → (k start b : ℕ) → NodeRead
+wholeAt s k start b = cond (leb (start + b) (length s)) (Got (nodeOf s k start) (start + b)) (Fault 2)
+
 -- a record whose kind has the rule r: the kind is allowed, then the body is there
 unfoldable pub nodeBy : List ℕ → ℕ → ℕ → Rule → NodeRead
-nodeBy s at k r =
-    cond (eqb (r .form) 0) (Fault 3)
-    (cond (leb (at + 1 + r .body) (length s)) (Got (nodeOf s k (at + 1)) (at + 1 + r .body)) (Fault 2))
+nodeBy s at k r = cond (eqb (r .form) 0) (Fault 3) (wholeAt s k (at + 1) (r .body))
 
 -- the node at a place and the place behind its body, or the number of the fault
 unfoldable pub nodeAt : List ℕ → ℕ → NodeRead

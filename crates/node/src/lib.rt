@@ -4,7 +4,7 @@ ghost use mathlib.Core.Path.{_≡_};
 ghost use Prim.Native.Nat.{ℕ, _+_, _*_, _≤_};
 ghost use lib.ListN.{length, take};
 ghost use Rattle.node.specs.Kinds.{ruleOf, meant};
-ghost use Rattle.node.specs.Node.{wordAt, signedOf, nodeOf, nodeAt, typeFault, wordFault, zeroFault, faultOf};
+ghost use Rattle.node.specs.Node.{wordAt, signedOf, nodeOf, wholeAt, nodeAt, typeFault, wordFault, zeroFault, faultOf, faultAt};
 
 // What a kind byte fixes. form: 0 no expression node, 1 constant, 2 now, 3 at, 4 operator. A type is 0 flag, 1 word, 2 level, and
 // 3 stands for the wanted type.
@@ -250,7 +250,20 @@ pub fn node_of(table: &[u8], kind: u8, at: usize) -> Node
     }
 }
 
-// The node at `at` and the place behind its body, or the number of the fault.
+// The node of the kind `kind` whose body starts at `start`, or 2 where the body is missing.
+fn whole_at(table: &[u8], kind: u8, start: usize, body: u8) -> NodeRead
+    requires { ⌜ (start ≤ length (now table)) × (body ≡ ruleOf kind .body) ⌝ }
+    ensures { λ r. ⌜ r ≡ wholeAt (now (table .entry)) kind start body ⌝ }
+{
+    let length = size(body);
+    if table.len() - start < length {
+        return NodeRead::Fault(2);
+    }
+    NodeRead::Got(node_of(table, kind, start), start + length)
+}
+
+// The node at `at` and the place behind its body, or the number of the fault. An arm for each form lets the compiler choose among the
+// nodes once.
 pub fn node_at(table: &[u8], at: usize) -> NodeRead
     ensures { λ r. ⌜ r ≡ nodeAt (now (table .entry)) at ⌝ }
 {
@@ -259,15 +272,15 @@ pub fn node_at(table: &[u8], at: usize) -> NodeRead
     }
     let kind = table[at];
     let rule = rule_of(kind);
-    if rule.form == 0 {
-        return NodeRead::Fault(3);
-    }
+    let form = rule.form;
     let start = at + 1;
-    let body = size(rule.body);
-    if table.len() - start < body {
-        return NodeRead::Fault(2);
+    match form {
+        0 => NodeRead::Fault(3),
+        1 => whole_at(table, kind, start, rule.body),
+        2 => whole_at(table, kind, start, rule.body),
+        3 => whole_at(table, kind, start, rule.body),
+        _ => whole_at(table, kind, start, rule.body),
     }
-    NodeRead::Got(node_of(table, kind, start), start + body)
 }
 
 fn type_fault(t: u8, wanted: u8) -> u8
@@ -293,7 +306,7 @@ fn zero_fault(k: i8) -> u8
 }
 
 // 0, or the number of the fault of a node where `wanted` is asked.
-pub fn fault_of(node: Node, types: &[u8; 32], streams: usize, wanted: u8) -> u8
+fn fault_of(node: Node, types: &[u8; 32], streams: usize, wanted: u8) -> u8
     requires { ⌜ (streams ≤ 32) × (length (now types) ≡ 32) ⌝ }
     ensures { λ r. ⌜ r ≡ faultOf (take streams (now (types .entry))) wanted node ⌝ }
 {
@@ -328,5 +341,17 @@ pub fn fault_of(node: Node, types: &[u8; 32], streams: usize, wanted: u8) -> u8
             let rule = rule_of(kind);
             type_fault(meant_type(rule.result, wanted), wanted)
         }
+    }
+}
+
+// The same with `levels` levels left: 6 comes before 4 and 5.
+pub fn fault_at(node: Node, types: &[u8; 32], streams: usize, wanted: u8, levels: u8) -> u8
+    requires { ⌜ (streams ≤ 32) × (length (now types) ≡ 32) ⌝ }
+    ensures { λ r. ⌜ r ≡ faultAt levels (take streams (now (types .entry))) wanted node ⌝ }
+{
+    if levels == 0 {
+        6
+    } else {
+        fault_of(node, types, streams, wanted)
     }
 }

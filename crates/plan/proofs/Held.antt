@@ -25,9 +25,8 @@ use Rattle.evaluate.specs.Turns.{planIn, Ready}
 use Rattle.output.specs.Encoding.{roomFrom}
 use Rattle.certificate.specs.Certificate.{of}
 use Rattle.announce.specs.Announced.{announced}
-use Rattle.plan.specs.declared.Plan.{Plan}
 use Rattle.plan.specs.PlanFor.{tableIn, rowFits, planFor}
-use Rattle.plan.specs.Planning.{Plans}
+use Rattle.plan.specs.Planning.{Plan, Plans}
 use Rattle.plan.proofs.Arrays.{padded-at, padded-take, start-held}
 use Rattle.plan.proofs.Parts.{base-total, part-within}
 use Rattle.plan.proofs.Rooms.{room-of-outputs}

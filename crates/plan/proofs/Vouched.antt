@@ -14,10 +14,8 @@ use Rattle.table.proofs.Sound.{sound}
 use Rattle.announce.specs.declared.Checked.{Checked}
 use Rattle.announce.specs.Announced.{lookAhead, roomBytes, closingTurns, acceptance, announced}
 use Rattle.certificate.specs.Certificate.{of}
-use Rattle.vouch.specs.declared.Vouched.{Vouched}
-use Rattle.vouch.specs.Vouching.{Vouches, Verdict}
-use Rattle.plan.specs.declared.Plan.{Plan}
-use Rattle.plan.specs.Planning.{Plans, Planning}
+use Rattle.vouch.specs.Vouching.{Vouched, Vouches, Verdict}
+use Rattle.plan.specs.Planning.{Plan, Plans, Planning}
 use Rattle.plan.proofs.Arrays.{padded-at}
 use Rattle.plan.proofs.Announcing.{announced-certified, look-announced, kept-announced-list, words-announced, closing-announced, certified-accepted}
 
@@ -75,7 +73,6 @@ module _ {s look kept : List ℕ} {r : Vouched} (v : Vouches s look kept r) wher
     pub planned : {parts : List ℕ} {words room closing : ℕ} → ((u : ℕ) → u < r .streams → getD parts u 0 ≡ total (of kept) u) → words ≡ total (of kept) (r .streams)
         → room ≡ 10 * (r .streams - r .inputs) + 6 * total (of (r .roles)) (r .streams) → closing ≡ most (of look) (r .streams)
         → Plans s look kept (record {
-          ok = true;
           inputs = r .inputs;
           streams = r .streams;
           types = r .types;

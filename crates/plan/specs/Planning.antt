@@ -11,7 +11,26 @@ use Rattle.table.specs.Table.{Table, decoded, decode, streams, edges}
 use Rattle.table.specs.Answers.{padded, startsOf}
 use Rattle.certificate.specs.Certificate.{of, Ordered}
 use Rattle.announce.specs.Announced.{announced}
-use Rattle.plan.specs.declared.Plan.{Plan}
+use Rattle.plan.specs.declared.Sums.{Sums}
+
+-- what a turn goes by: the streams with their types and roles, where each expression starts in the table and each part in the store, the
+-- order within a turn, and the announced sums
+pub record Plan : Type 0 where
+  pub inputs : ℕ
+  pub streams : ℕ
+  pub types : List ℕ
+  pub roles : List ℕ
+  pub starts : List ℕ
+  pub parts : List ℕ
+  pub order : List ℕ
+  pub words : ℕ
+  pub room : ℕ
+  pub closing : ℕ
+
+-- the sums, with what stands in the lent arrays
+abbrev pub planBy : Sums → (types roles starts parts order : List ℕ) → Plan
+planBy r types roles starts parts order =
+    record { inputs = r .inputs; streams = r .streams; types = types; roles = roles; starts = starts; parts = parts; order = order; words = r .words; room = r .room; closing = r .closing }
 
 -- the bytes are those of an accepted table, look and kept are the numbers announced of it, and p holds what a turn goes by
 pub record Plans (s look kept : List ℕ) (p : Plan) : Type 0 where

@@ -3,33 +3,27 @@
 ghost use mathlib.Core.Path.{_≡_};
 ghost use mathlib.Core.Bool.{false};
 ghost use Prim.Native.Nat.{ℕ, _+_, _-_, _*_, _≤_, _<_};
-ghost use lib.ListN.{getD};
+ghost use lib.ListN.{length, getD};
 ghost use Rattle.basis.specs.Sums.{total};
 ghost use Rattle.certificate.specs.Certificate.{of};
-ghost use Rattle.plan.specs.Planning.{Planning};
+ghost use Rattle.plan.specs.Planning.{planBy, Planning};
 
-// The streams with their types and roles, where each expression starts in the table and each part in the store, the order within a
-// turn, and the announced sums. Entries past the last stream say nothing.
-pub struct Plan {
+// The number of inputs and streams, and the announced sums; `ok` where there is a plan.
+pub struct Sums {
     pub ok: bool,
     pub inputs: usize,
     pub streams: usize,
-    pub types: [u8; 32],
-    pub roles: [u8; 32],
-    pub starts: [u16; 32],
-    pub parts: [u16; 32],
-    pub order: [u8; 32],
     pub words: usize,
     pub room: usize,
     pub closing: u16,
 }
 
 // Where the part of each stream starts in the store: the sum of the kept numbers before it.
-fn parts_of(kept: &[u16; 32], streams: usize) -> [u16; 32]
+fn parts_of(kept: &[u16; 32], streams: usize, parts: &mut [u16; 32])
     requires { ⌜ (streams ≤ 32) × (total (of (now kept)) streams ≤ 4096) ⌝ }
-    ensures { λ r. ⌜ ((v : ℕ) → v < streams → getD r v 0 ≡ total (of (now (kept .entry))) v) ⌝ }
+    ensures { λ _. ⌜ ((v : ℕ) → v < streams → getD (now (parts .exit)) v 0 ≡ total (of (now (kept .entry))) v) ⌝ }
 {
-    let mut parts = [0u16; 32];
+    *parts = [0u16; 32];
     let mut next = 0;
     let mut v = 0;
     while v < streams {
@@ -37,7 +31,6 @@ fn parts_of(kept: &[u16; 32], streams: usize) -> [u16; 32]
         next += kept[v];
         v += 1;
     }
-    parts
 }
 
 // "Room: 10 bytes for each output and 6 for each trigger."
@@ -48,18 +41,13 @@ fn room_of(roles: &[u8; 32], inputs: usize, streams: usize) -> usize
     10 * (streams - inputs) + 6 * numbers::triggers(roles, streams)
 }
 
-fn no_plan() -> Plan
+fn no_plan() -> Sums
     ensures { λ r. ⌜ r .ok ≡ false ⌝ }
 {
-    Plan {
+    Sums {
         ok: false,
         inputs: 0,
         streams: 0,
-        types: [0u8; 32],
-        roles: [0u8; 32],
-        starts: [0u16; 32],
-        parts: [0u16; 32],
-        order: [0u8; 32],
         words: 0,
         room: 0,
         closing: 0,
@@ -67,31 +55,34 @@ fn no_plan() -> Plan
 }
 
 // The plan of a call whose record has these look-aheads and kept numbers; not ok where they are not those of an accepted table of
-// these bytes.
-pub fn plan_of(table: &[u8], look: [u16; 32], kept: [u16; 32]) -> Plan
-    ensures { λ r. ⌜ Planning (r .ok) (now (table .entry)) look kept r ⌝ }
+// these bytes. The lent arrays get the streams' types and roles, where each expression starts in the table and each part in the store, and
+// the order within a turn; entries past the last stream say nothing. They are lent, not handed back: a copy of what was just written
+// entry by entry would stall each call.
+pub fn plan_of(
+    table: &[u8],
+    look: &[u16; 32],
+    kept: &[u16; 32],
+    types: &mut [u8; 32],
+    roles: &mut [u8; 32],
+    starts: &mut [u16; 32],
+    parts: &mut [u16; 32],
+    order: &mut [u8; 32],
+) -> Sums
+    requires { ⌜ (length (now look) ≡ 32) × (length (now kept) ≡ 32) ⌝ }
+    ensures { λ r. ⌜ Planning (r .ok) (now (table .entry)) (now (look .entry)) (now (kept .entry)) (planBy r (now (types .exit)) (now (roles .exit)) (now (starts .exit)) (now (parts .exit)) (now (order .exit))) ⌝ }
 {
-    let vouched = vouch::vouch(table, &look, &kept);
-    if vouched.ok {
-        let inputs = vouched.inputs;
-        let streams = vouched.streams;
-        let types = vouched.types;
-        let roles = vouched.roles;
-        let starts = vouched.starts;
-        let order = vouched.order;
-        let parts = parts_of(&kept, streams);
-        let words = numbers::sum(&kept, streams);
-        let room = room_of(&roles, inputs, streams);
-        let closing = numbers::largest(&look, streams);
-        Plan {
+    let found = vouch::vouch(table, look, kept, types, roles, starts, order);
+    if found.ok {
+        let inputs = found.inputs;
+        let streams = found.streams;
+        parts_of(kept, streams, parts);
+        let words = numbers::sum(kept, streams);
+        let room = room_of(roles, inputs, streams);
+        let closing = numbers::largest(look, streams);
+        Sums {
             ok: true,
             inputs: inputs,
             streams: streams,
-            types: types,
-            roles: roles,
-            starts: starts,
-            parts: parts,
-            order: order,
             words: words,
             room: room,
             closing: closing,

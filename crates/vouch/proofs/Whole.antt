@@ -15,11 +15,10 @@ use Rattle.table.specs.Answers.{padded, headedOf, headingOf, startsOf}
 use Rattle.table.proofs.Decoding.{Opens, decode-unheaded, opened-inputs, opened-streams, behind-heading, decode-unfit, decode-more, decode-equated}
 use Rattle.table.proofs.Sound.{sound}
 use Rattle.certificate.specs.Certificate.{of, Ordered}
-use Rattle.vouch.specs.declared.Vouched.{Vouched}
-use Rattle.vouch.specs.Vouching.{Bounded, Certified, Vouches, Verdict}
-use Rattle.vouch.specs.Steps.{Judges}
+use Rattle.vouch.specs.Vouching.{Bounded, Certified, Vouched, Vouches, Verdict}
+use Rattle.vouch.specs.Steps.{Judges, Judgement}
 
-pub verdict-no : (s look kept : List ℕ) (r : Vouched) → r .ok ≡ false → ((t : Table) → decode s ≡ decoded t → Certified t look kept → ⊥) → Verdict (r .ok) s look kept r
+pub verdict-no : (s look kept : List ℕ) (r : Vouched) {b : Bool} → b ≡ false → ((t : Table) → decode s ≡ decoded t → Certified t look kept → ⊥) → Verdict b s look kept r
 verdict-no s look kept r e f = subst (λ (b : Bool). Verdict b s look kept r) (sym e) f
 
 not-refused : {X : Type 0} (s : List ℕ) {t : Table} {why place : ℕ} → decode s ≡ refused why place → decode s ≡ decoded t → X
@@ -60,7 +59,7 @@ module _ {s : List ℕ} {h : Heading} (o : Opens s h) where
       f (subst (Bounded look kept) (ap (λ (t : Table). streams t) (sym (b .2)) ∙ sym (opened-streams o)) (x .bounded))
 
   -- equations whose numbers these are not
-  pub not-judged : {look kept : List ℕ} →
+  not-judged : {look kept : List ℕ} →
       ((qs : List Equation) → behind-heading o ≡ equated qs (length s) → Within (among (edgesFrom (h .inputs) qs)) (h .streams) → Right (among (edgesFrom (h .inputs) qs)) (h .streams) (of look) (of kept) → ⊥) →
       (t : Table) → decode s ≡ decoded t → Certified t look kept → ⊥
   unfolding edges
@@ -78,7 +77,7 @@ module _ {s : List ℕ} {h : Heading} (o : Opens s h) where
     unfolding edges
     in-order = (rw (opened-inputs o, opened-streams o) at (j .ordered)) (edges-within s decodes)
 
-    pub judged : Vouches s look kept (record { ok = true; inputs = h .inputs; streams = h .streams; types = h .types; roles = h .roles; starts = starts; order = order })
+    judged : Vouches s look kept (record { inputs = h .inputs; streams = h .streams; types = h .types; roles = h .roles; starts = starts; order = order })
     unfolding headedOf
     judged = record {
       table = headed (j .equations);
@@ -91,3 +90,9 @@ module _ {s : List ℕ} {h : Heading} (o : Opens s h) where
       roles-are = ap (λ (h : Heading). h .roles) (o .heading-is);
       starts-are = j .starts-are ∙ ap (λ (i : ℕ). padded (replicate i 0 ++ startsOf (j .equations))) (opened-inputs o);
     }
+
+  -- numbers in bounds: the equations decide
+  pub verdict-judged : {look kept : List ℕ} (starts order : List ℕ) → Bounded look kept (h .streams) → (b : Bool) → Judgement b (behind-heading o) (length s) (h .inputs) (h .streams) (of look) (of kept) starts order →
+      Verdict b s look kept (record { inputs = h .inputs; streams = h .streams; types = h .types; roles = h .roles; starts = starts; order = order })
+  verdict-judged starts order x true j = judged x j
+  verdict-judged starts order x false j = not-judged j

@@ -11,7 +11,7 @@ use Rattle.walks.specs.Walks.{Right}
 use Rattle.table.specs.Table.{Table, decoded, decode, streams, edges}
 use Rattle.table.specs.Answers.{padded, startsOf}
 use Rattle.certificate.specs.Certificate.{of, Ordered}
-use Rattle.vouch.specs.declared.Vouched.{Vouched}
+use Rattle.vouch.specs.declared.Found.{Found}
 
 -- "(0 past S)"
 abbrev pub ZeroPast : List ℕ → ℕ → Type 0
@@ -27,6 +27,19 @@ pub record Bounded (look kept : List ℕ) (s : ℕ) : Type 0 where
 pub record Certified (t : Table) (look kept : List ℕ) : Type 0 where
   pub right : Right (among (edges t)) (streams t) (of look) (of kept)
   pub bounded : Bounded look kept (streams t)
+
+-- what a call needs of a table: its streams, where their expressions start, and the order within a turn
+pub record Vouched : Type 0 where
+  pub inputs : ℕ
+  pub streams : ℕ
+  pub types : List ℕ
+  pub roles : List ℕ
+  pub starts : List ℕ
+  pub order : List ℕ
+
+-- what was found, with what stands in the lent arrays
+abbrev pub vouchedBy : Found → List ℕ → List ℕ → List ℕ → List ℕ → Vouched
+vouchedBy r types roles starts order = record { inputs = r .inputs; streams = r .streams; types = types; roles = roles; starts = starts; order = order }
 
 -- the bytes are those of a table, whose numbers these are; r has the table's streams and the order within a turn
 pub record Vouches (s look kept : List ℕ) (r : Vouched) : Type 0 where

@@ -6,7 +6,7 @@ ghost use Prim.Native.Nat.{_+_, _-_, _<_, _≤_};
 ghost use lib.ListN.{length, take};
 ghost use Rattle.table.specs.Table.{equationAt, equationsAt};
 ghost use Rattle.certificate.specs.Certificate.{of};
-ghost use Rattle.vouch.specs.Vouching.{ZeroPast, Bounded, Verdict};
+ghost use Rattle.vouch.specs.Vouching.{ZeroPast, Bounded, vouchedBy, Verdict};
 ghost use Rattle.vouch.specs.Steps.{Decides, NotedEquation, Judgement};
 use expression::Scanned;
 
@@ -65,14 +65,8 @@ fn note_equation(
     }
 }
 
-// The verdict on the numbers over the equations; where their expressions start, and the order within a turn.
-pub struct Judged {
-    pub ok: bool,
-    pub starts: [u16; 32],
-    pub order: [u8; 32],
-}
-
-// The equations of the streams inputs..streams, the first of them at `at` and the last at the table's end.
+// The verdict on the numbers over the equations of the streams inputs..streams, the first of them at `at` and the last at the table's end; `starts` and
+// `order` are lent for where their expressions start and for the order within a turn.
 fn judge(
     table: &[u8],
     types: &[u8; 32],
@@ -81,23 +75,21 @@ fn judge(
     at: usize,
     look: &[u16; 32],
     kept: &[u16; 32],
-) -> Judged
+    starts: &mut [u16; 32],
+    order: &mut [u8; 32],
+) -> bool
     requires { ⌜ (inputs ≤ streams) × (streams ≤ 32) × (length (now types) ≡ 32) × (length (now table) ≤ 4096) ⌝ }
-    ensures { λ r. ⌜ Judgement (r .ok) (equationsAt (streams - inputs) inputs (take streams (now (types .entry))) (now (table .entry)) at) (length (now (table .entry))) inputs streams (of (now (look .entry))) (of (now (kept .entry))) (r .starts) (r .order) ⌝ }
+    ensures { λ r. ⌜ Judgement r (equationsAt (streams - inputs) inputs (take streams (now (types .entry))) (now (table .entry)) at) (length (now (table .entry))) inputs streams (of (now (look .entry))) (of (now (kept .entry))) (now (starts .exit)) (now (order .exit)) ⌝ }
 {
     let mut tight = [0u32; 32];
     let mut most = [0u32; 32];
-    let mut starts = [0u16; 32];
+    *starts = [0u16; 32];
     let mut y = inputs;
     let mut next = at;
     while y < streams {
         match note_equation(table, types, streams, y, next, look, &mut tight, &mut most) {
             Noted::Refused => {
-                return Judged {
-                    ok: false,
-                    starts: [0u16; 32],
-                    order: [0u8; 32],
-                };
+                return false;
             }
             Noted::Ends(end) => {
                 starts[y] = (next + 2) as u16;
@@ -107,50 +99,42 @@ fn judge(
         }
     }
     if next == table.len() {
-        let settled = certificate::settle(&tight, &most, look, kept, streams);
-        let order = settled.order;
-        Judged {
-            ok: settled.ok,
-            starts: starts,
-            order: order,
-        }
+        certificate::settle(&tight, &most, look, kept, streams, order)
     } else {
-        Judged {
-            ok: false,
-            starts: [0u16; 32],
-            order: [0u8; 32],
-        }
+        false
     }
 }
 
-// Whether the record's numbers are vouched for, and what a call needs of the table: its streams and the order within a turn.
-pub struct Vouched {
+// Whether the record's numbers are vouched for, and how many streams the table has; the rest that a call needs of the table is in arrays that the caller
+// lends, since an array that is written entry by entry and then returned is copied before the writes have settled.
+pub struct Found {
     pub ok: bool,
     pub inputs: usize,
     pub streams: usize,
-    pub types: [u8; 32],
-    pub roles: [u8; 32],
-    pub starts: [u16; 32],
-    pub order: [u8; 32],
 }
 
-fn unvouched() -> Vouched
+fn unvouched() -> Found
     ensures { λ r. ⌜ r .ok ≡ false ⌝ }
 {
-    Vouched {
+    Found {
         ok: false,
         inputs: 0,
         streams: 0,
-        types: [0u8; 32],
-        roles: [0u8; 32],
-        starts: [0u16; 32],
-        order: [0u8; 32],
     }
 }
 
-// Whether the bytes are those of a table and the numbers those of a record of this table.
-pub fn vouch(table: &[u8], look: &[u16; 32], kept: &[u16; 32]) -> Vouched
-    ensures { λ r. ⌜ Verdict (r .ok) (now (table .entry)) (now (look .entry)) (now (kept .entry)) r ⌝ }
+// Whether the bytes are those of a table and the numbers those of a record of this table; where they are, the lent arrays have the streams' types and
+// roles, where their expressions start, and the order within a turn.
+pub fn vouch(
+    table: &[u8],
+    look: &[u16; 32],
+    kept: &[u16; 32],
+    types: &mut [u8; 32],
+    roles: &mut [u8; 32],
+    starts: &mut [u16; 32],
+    order: &mut [u8; 32],
+) -> Found
+    ensures { λ r. ⌜ Verdict (r .ok) (now (table .entry)) (now (look .entry)) (now (kept .entry)) (vouchedBy r (now (types .exit)) (now (roles .exit)) (now (starts .exit)) (now (order .exit))) ⌝ }
 {
     let heading = table::scan_heading(table);
     if heading.number != 0 {
@@ -159,29 +143,24 @@ pub fn vouch(table: &[u8], look: &[u16; 32], kept: &[u16; 32]) -> Vouched
     if !within_bounds(look, kept, heading.streams) {
         return unvouched();
     }
-    let types = heading.types;
-    let judged = judge(
+    let headed_types = heading.types;
+    let headed_roles = heading.roles;
+    *types = headed_types;
+    *roles = headed_roles;
+    let ok = judge(
         table,
-        &types,
+        types,
         heading.inputs,
         heading.streams,
         heading.place,
         look,
         kept,
+        starts,
+        order,
     );
-    if !judged.ok {
-        return unvouched();
-    }
-    let roles = heading.roles;
-    let starts = judged.starts;
-    let order = judged.order;
-    Vouched {
-        ok: true,
+    Found {
+        ok: ok,
         inputs: heading.inputs,
         streams: heading.streams,
-        types: types,
-        roles: roles,
-        starts: starts,
-        order: order,
     }
 }

@@ -20,8 +20,8 @@ loop-holds c = way-start _ _ _ _ (search needs) (λ v h. full v (omega arith))
 returns : tie.Need-returns Inv-loop μ-loop
 returns c = way-stuck _ _ _ _ _ (c .before .before .before .loop .inv) (c .before .before .loop-test .taken) (c .if1 .left) (c .before .ready .ensures)
 
-array-write-order : tie.Need-array-write-order Inv-loop μ-loop
-array-write-order c = omega (arith, c .before .before .before .loop .inv .long)
+element-write-order : tie.Need-element-write-order Inv-loop μ-loop
+element-write-order c = omega (arith, c .before .before .before .loop .inv .long)
 
 loop-again : tie.Need-loop-again Inv-loop μ-loop
 loop-again c = way-step _ _ _ _ _ (c .before .before .before .loop .inv) _ (c .if1 .taken) (search needs) (c .before .ready .ensures)
@@ -38,7 +38,7 @@ ordered-spec =
     loop-holds
     (λ c κs. search needs)
     (λ c. search needs)
-    array-write-order
+    element-write-order
     (λ c. search needs)
     (λ c. search needs)
     (λ c. search needs)

@@ -6,7 +6,7 @@ use Rattle.certificate.proofs.settle.Statement.{statement}
 use Rattle.certificate.proofs.settle.Tie as tie
 
 returns : tie.Need-returns
-returns c = λ es ends x. settle-line es _ (c .before .before .before .pre) ends _ _ _ _ x (rw (c .before .if1 .taken) at (c .before .before .agrees .ensures)) (c .ordered .result .ok) (c .ordered .result .order) (c .ordered .ensures)
+returns c = λ es ends x. settle-line es _ (c .before .before .before .before .pre) ends _ _ _ _ x (rw (c .before .before .if1 .taken) at (c .before .before .before .agrees .ensures)) (c .ordered .result) _ (c .ordered .ensures)
 
 returns-2 : tie.Need-returns-2
 returns-2 c = λ es ends x. settle-amiss es _ (c .before .before .pre) ends _ _ _ _ x (rw (c .if1 .left) at (c .before .agrees .ensures))

@@ -1,48 +1,47 @@
--- `node::node_at` meets its contract.
+-- `node::node_at` meets its contract: each form but 0 goes on with the body.
 -- Assumes nothing.
-use mathlib.Core.Path.{_≡_, ap}
+use mathlib.Core.Path.{_≡_, ap, _∙_}
 use mathlib.Core.List.{List}
-use Prim.Native.Nat.{ℕ, _+_, _≤_, _<_, _-_}
+use Prim.Native.Nat.{ℕ, _+_, _<_}
 use native.Mathlib.Omega.{arith}
-use borrow.Author.Tests.{eq-eqb, ne-eqb, lt-ltb, le-ltb, le-leb, lt-leb}
+use borrow.Author.Tests.{eq-eqb, ne-eqb, lt-ltb, le-ltb}
 use lib.ListN.{length, getD}
 use Rattle.node.specs.Kinds.{ruleOf}
-use Rattle.node.specs.Node.{nodeOf, nodeBy, nodeAt}
+use Rattle.node.specs.Node.{wholeAt, nodeBy, nodeAt}
 use Rattle.node.specs.declared.Rule.{Rule}
-use Rattle.node.specs.declared.NodeRead.the-variants.{Fault, Got}
+use Rattle.node.specs.declared.NodeRead.{NodeRead}
+use Rattle.node.specs.declared.NodeRead.the-variants.{Fault}
 use borrow.Author.Needs.{needs}
 use Rattle.node.proofs.node_at.Statement.{statement}
 use Rattle.node.proofs.node_at.Tie as tie
 
-fault-3 : (s : List ℕ) (at : ℕ) {r : Rule} → at < length s → r ≡ ruleOf (getD s at 0) → r .form ≡ 0 → Fault 3 ≡ nodeAt s at
-unfolding nodeAt nodeBy
-fault-3 s at {r} h e z = simp (lt-ltb _ _ h, ← e, eq-eqb _ _ z)
+module _ (s : List ℕ) (at : ℕ) {r : Rule} (h : at < length s) (e : r ≡ ruleOf (getD s at 0)) where
+  no-node : r .form ≡ 0 → Fault 3 ≡ nodeAt s at
+  unfolding nodeAt nodeBy
+  no-node z = simp (lt-ltb _ _ h, ← e, eq-eqb _ _ z)
 
-fault-2 : (s : List ℕ) (at : ℕ) {r : Rule} → at < length s → r ≡ ruleOf (getD s at 0) → (r .form ≡ 0 → ⊥) → length s - (at + 1) < r .body → Fault 2 ≡ nodeAt s at
-unfolding nodeAt nodeBy
-fault-2 s at {r} h e z g = simp (lt-ltb _ _ h, ← e, ne-eqb _ _ z, lt-leb (at + 1 + r .body) (length s) (omega arith))
-
-whole : (s : List ℕ) (at : ℕ) {r : Rule} → at < length s → r ≡ ruleOf (getD s at 0) → (r .form ≡ 0 → ⊥) → r .body ≤ length s - (at + 1)
-    → Got (nodeOf s (getD s at 0) (at + 1)) (at + 1 + r .body) ≡ nodeAt s at
-unfolding nodeAt nodeBy
-whole s at {r} h e z g = simp (lt-ltb _ _ h, ← e, ne-eqb _ _ z, le-leb (at + 1 + r .body) (length s) (omega arith))
+  some-node : {x : NodeRead} → (r .form ≡ 0 → ⊥) → x ≡ wholeAt s (getD s at 0) (at + 1) (r .body) → x ≡ nodeAt s at
+  unfolding nodeAt nodeBy
+  some-node z q = q ∙ rw (lt-ltb _ _ h, ← e, ne-eqb _ _ z)
 
 returns : tie.Need-returns
 unfolding nodeAt
 returns c = simp (le-ltb _ _ (c .if1 .taken))
 
 returns-2 : tie.Need-returns-2
-returns-2 c = fault-3 _ _ (c .before .before .before .before .if1 .left) (c .before .before .rule-of .ensures) (c .if2 .taken)
+returns-2 c = no-node _ _ (c .before .before .before .if1 .left) (c .before .rule-of .ensures) (c .match .keys1)
 
 returns-3 : tie.Need-returns-3
-returns-3 c = fault-2 _ _ (c .before .before .before .before .before .before .if1 .left) (c .before .before .before .before .rule-of .ensures) (c .before .before .if2 .left) (rw (← c .before .size .ensures) (c .if3 .taken))
-
-node-of-requires : tie.Need-node-of-requires
-node-of-requires c κs = omega (arith, ap (λ (r : Rule). r .body) (c .before .before .before .before .rule-of .ensures))
+returns-3 c = some-node _ _ (c .before .before .before .before .if1 .left) (c .before .before .rule-of .ensures) (λ z. omega (arith, z, c .before .match .keys2)) (c .whole-at .ensures)
 
 returns-4 : tie.Need-returns-4
-returns-4 c =
-    rw (c .node-of .ensures, c .before .before .size .ensures) (whole _ _ (c .before .before .before .before .before .before .before .if1 .left) (c .before .before .before .before .before .rule-of .ensures) (c .before .before .before .if2 .left) (rw (← c .before .before .size .ensures) (c .before .if3 .left)))
+returns-4 c = some-node _ _ (c .before .before .before .before .if1 .left) (c .before .before .rule-of .ensures) (λ z. omega (arith, z, c .before .match .keys3)) (c .whole-at2 .ensures)
+
+returns-5 : tie.Need-returns-5
+returns-5 c = some-node _ _ (c .before .before .before .before .if1 .left) (c .before .before .rule-of .ensures) (λ z. omega (arith, z, c .before .match .keys4)) (c .whole-at3 .ensures)
+
+returns-6 : tie.Need-returns-6
+returns-6 c = some-node _ _ (c .before .before .before .before .if1 .left) (c .before .before .rule-of .ensures) (c .before .match .rest .0 .0 .0 .1) (c .whole-at4 .ensures)
 
 pub node-at-spec : {M : Type 1} → statement M
 node-at-spec =
@@ -51,11 +50,13 @@ node-at-spec =
     returns
     (λ c. search needs)
     (λ c κs. search needs)
+    (λ c. search needs)
+    (λ c κs. (omega arith, ap (λ (r : Rule). r .body) (c .before .rule-of .ensures)))
+    (λ c κs. (omega arith, ap (λ (r : Rule). r .body) (c .before .rule-of .ensures)))
+    (λ c κs. (omega arith, ap (λ (r : Rule). r .body) (c .before .rule-of .ensures)))
+    (λ c κs. (omega arith, ap (λ (r : Rule). r .body) (c .before .rule-of .ensures)))
     returns-2
-    (λ c. search needs)
-    (λ c κs. search needs)
-    (λ c. search needs)
     returns-3
-    node-of-requires
-    (λ c. search needs)
-    returns-4)
+    returns-4
+    returns-5
+    returns-6)

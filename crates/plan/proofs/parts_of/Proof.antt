@@ -25,13 +25,13 @@ loop-holds c = (search needs, refl, refl, λ u h. absurd (not-suc-le-zero h))
 
 add-next : tie.Need-add-next Inv-loop μ-loop
 add-next c =
-    let kept : ℕ → ℕ = of (c .before .before .before .args .kept .now) in
-    omega (arith, part-within kept (c .before .before .loop .v) (c .before .before .before .args .streams) (c .before .loop-test .taken), c .before .before .before .pre .1, c .before .before .loop .inv .1)
+    let kept : ℕ → ℕ = of (c .before .before .before .before .args .kept .now) in
+    omega (arith, part-within kept (c .before .before .loop .v) (c .before .before .before .before .args .streams) (c .before .loop-test .taken), c .before .before .before .before .pre .1, c .before .before .loop .inv .1)
 
 loop-again : tie.Need-loop-again Inv-loop μ-loop
 loop-again c =
-    let kept : ℕ → ℕ = of (c .before .before .before .args .kept .now) in
-    (search needs, sum-more kept (c .before .before .loop .inv .1) refl, search needs, starts-more kept (c .before .before .loop .inv .1) (c .before .before .loop .parts) (omega (arith, c .before .before .loop .inv .2, c .before .loop-test .taken, c .before .before .before .pre .0)) (c .before .before .loop .inv .3))
+    let kept : ℕ → ℕ = of (c .before .before .before .before .args .kept .now) in
+    (search needs, sum-more kept (c .before .before .loop .inv .1) refl, search needs, starts-more kept (c .before .before .loop .inv .1) (c .before .before .loop .parts) (omega (arith, c .before .before .loop .inv .2, c .before .loop-test .taken, c .before .before .before .before .pre .0)) (c .before .before .loop .inv .3))
 
 returns : tie.Need-returns Inv-loop μ-loop
 returns c = λ u h. c .before .loop .inv .3 u (omega (arith, h, c .loop-test .left))

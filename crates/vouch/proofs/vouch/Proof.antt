@@ -1,10 +1,10 @@
--- `vouch`: a refused heading, numbers out of bounds, equations whose numbers these are not, or all is well.
+-- `vouch`: a refused heading, numbers out of bounds, or the verdict on the equations.
 -- Assumes nothing.
 use native.Mathlib.Omega.{arith}
 use borrow.Author.Needs.{needs}
 use borrow.Author.Tests.{not-true, not-false}
 use Rattle.table.proofs.Decoding.{opens, opened-few}
-use Rattle.vouch.proofs.Whole.{verdict-no, no-heading, out-of-bounds, not-judged, judged}
+use Rattle.vouch.proofs.Whole.{verdict-no, no-heading, out-of-bounds, verdict-judged}
 use Rattle.vouch.proofs.vouch.Statement.{statement}
 use Rattle.vouch.proofs.vouch.Tie as tie
 
@@ -19,14 +19,11 @@ returns-2 c = verdict-no _ _ _ _ (c .unvouched2 .ensures) (out-of-bounds (opens 
 
 judge-requires : tie.Need-judge-requires
 judge-requires c κs =
-    let o = opens _ (c .before .before .before .before .before .before .scan-heading .ensures) (c .before .before .before .before .if1 .left) in
+    let o = opens _ (c .before .before .before .before .before .before .before .before .before .scan-heading .ensures) (c .before .before .before .before .before .before .before .if1 .left) in
     (omega (arith, opened-few o), opened-few o .1 .1, search needs, o .fits .bytes .1)
 
 returns-3 : tie.Need-returns-3
-returns-3 c = verdict-no _ _ _ _ (c .unvouched3 .ensures) (not-judged (opens _ (c .before .before .before .before .before .before .before .before .before .before .scan-heading .ensures) (c .before .before .before .before .before .before .before .before .if1 .left)) (rw (not-true (c .before .before .before .judge .result .ok) (c .before .if3 .taken)) at (c .before .before .before .judge .ensures)))
-
-returns-4 : tie.Need-returns-4
-returns-4 c = judged (opens _ (c .before .before .before .before .before .before .before .before .before .before .before .before .scan-heading .ensures) (c .before .before .before .before .before .before .before .before .before .before .if1 .left)) (rw (not-false (c .before .before .before .before .before .before .before .before .before .within-bounds .result) (c .before .before .before .before .before .before .before .before .if2 .left)) at (c .before .before .before .before .before .before .before .before .before .within-bounds .ensures)) (rw (not-false (c .before .before .before .before .before .judge .result .ok) (c .before .before .before .if3 .left)) at (c .before .before .before .before .before .judge .ensures))
+returns-3 c = verdict-judged (opens _ (c .before .before .before .before .before .before .before .before .before .before .scan-heading .ensures) (c .before .before .before .before .before .before .before .before .if1 .left)) _ _ (rw (not-false (c .before .before .before .before .before .before .before .within-bounds .result) (c .before .before .before .before .before .before .if2 .left)) at (c .before .before .before .before .before .before .before .within-bounds .ensures)) (c .judge .result) (c .judge .ensures)
 
 pub vouch-spec : {M : Type 1} → statement M
 vouch-spec =
@@ -39,6 +36,4 @@ vouch-spec =
     (λ c κs. search needs)
     returns-2
     judge-requires
-    (λ c κs. search needs)
-    returns-3
-    returns-4)
+    returns-3)
