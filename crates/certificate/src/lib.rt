@@ -106,6 +106,19 @@ fn ready(tight: &[u32; 32], rest: u32, s: usize) -> usize
     s
 }
 
+// The same, with the stream `n` tried first: most tables name their streams in an order that serves.
+fn ready_from(tight: &[u32; 32], rest: u32, s: usize, n: usize) -> usize
+    requires { ⌜ (s ≤ 32) × (n < s) ⌝ }
+    ensures { λ r. ⌜ Ready (now (tight .entry)) rest s r ⌝ }
+{
+    if (rest >> n) % 2 == 1 {
+        if tight[n] & rest == 0 {
+            return n;
+        }
+    }
+    ready(tight, rest, s)
+}
+
 // Whether the record's numbers agree with what was noted.
 fn agrees(tight: &[u32; 32], most: &[u32; 32], look: &[u16; 32], kept: &[u16; 32], s: usize) -> bool
     requires { ⌜ s ≤ 32 ⌝ }
@@ -138,7 +151,7 @@ fn ordered(tight: &[u32; 32], s: usize, order: &mut [u8; 32]) -> bool
     let mut rest: u32 = 4294967295;
     let mut n = 0;
     while n < s {
-        let y = ready(tight, rest, s);
+        let y = ready_from(tight, rest, s, n);
         if y < s {
             order[n] = y as u8;
             rest = rest ^ 1 << y;

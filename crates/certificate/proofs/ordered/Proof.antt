@@ -18,13 +18,13 @@ loop-holds : tie.Need-loop-holds Inv-loop μ-loop
 loop-holds c = way-start _ _ _ _ (search needs) (λ v h. full v (omega arith))
 
 returns : tie.Need-returns Inv-loop μ-loop
-returns c = way-stuck _ _ _ _ _ (c .before .before .before .loop .inv) (c .before .before .loop-test .taken) (c .if1 .left) (c .before .ready .ensures)
+returns c = way-stuck _ _ _ _ _ (c .before .before .before .loop .inv) (c .before .before .loop-test .taken) (c .if1 .left) (c .before .ready-from .ensures)
 
 element-write-order : tie.Need-element-write-order Inv-loop μ-loop
 element-write-order c = omega (arith, c .before .before .before .loop .inv .long)
 
 loop-again : tie.Need-loop-again Inv-loop μ-loop
-loop-again c = way-step _ _ _ _ _ (c .before .before .before .loop .inv) _ (c .if1 .taken) (search needs) (c .before .ready .ensures)
+loop-again c = way-step _ _ _ _ _ (c .before .before .before .loop .inv) _ (c .if1 .taken) (search needs) (c .before .ready-from .ensures)
 
 returns-2 : tie.Need-returns-2 Inv-loop μ-loop
 returns-2 c = way-end _ _ _ _ _ (c .before .loop .inv) (c .loop-test .left)
