@@ -11,7 +11,7 @@ ghost use Rattle.certificate.specs.Tally.{marked, Tally, NotedCell, Note
 ghost use Rattle.certificate.specs.Line.{Ready, InLine, Agreed};
 
 // A number of a record, to reckon with.
-pub fn wide(x: u16) -> u32
+fn wide(x: u16) -> u32
     ensures { λ r. ⌜ (r ≡ x) × (r < 65536) ⌝ }
 {
     x as u32
