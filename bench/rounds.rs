@@ -22,6 +22,11 @@ impl Line<'_> {
         Line { table, call, count, best: [f64::INFINITY; 3] }
     }
 
+    /// A million rows of a long table take most of a minute: one round is enough.
+    pub fn long(&self) -> bool {
+        self.count * self.table.bytes.len() > 1_000_000_000
+    }
+
     /// One round.
     pub fn measure(&mut self) {
         let start = Instant::now();
