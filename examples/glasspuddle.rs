@@ -11,6 +11,9 @@
 
 use core::mem::{align_of, size_of};
 
+/// The version that the header has: major, minor, patch.
+pub const VERSION: [u32; 3] = [1, 0, 1];
+
 /// "table 1 to 4,096 bytes"
 pub const TABLE_MOST: usize = 4096;
 /// "S at most 32"

@@ -35,6 +35,17 @@
 extern "C" {
 #endif
 
+// The version, also as one number that can be compared: 10000 times major, 100 times minor, patch.
+// Each change of a layout, of a size or of a meaning raises it, and CHANGELOG.md says what changed:
+// the patch where every caller can stay as it is, the minor where something is new beside what was,
+// the major where a caller has to change or to be compiled anew.
+#define GLASSPUDDLE_VERSION_MAJOR 1
+#define GLASSPUDDLE_VERSION_MINOR 0
+#define GLASSPUDDLE_VERSION_PATCH 1
+#define GLASSPUDDLE_VERSION                                                                        \
+    (GLASSPUDDLE_VERSION_MAJOR * 10000 + GLASSPUDDLE_VERSION_MINOR * 100 +                         \
+     GLASSPUDDLE_VERSION_PATCH)
+
 // Document 01's limits ("Numbers").
 #define GLASSPUDDLE_TABLE_LEAST 1                  // "table 1 to 4,096 bytes"
 #define GLASSPUDDLE_TABLE_MOST 4096                // the same

@@ -88,11 +88,11 @@ layout_by g++ -std=c++11 -x c++
 compile_c refusals tests/refusals.c
 "$out/refusals"
 compile_c sessions tests/sessions.c
-"$out/sessions" < crates/sessions/stdin > "$out/given"
-cmp crates/sessions/stdout "$out/given" || fail "an entry gives not what the by-value call gives"
-echo "sessions: the entries give what the by-value calls give"
+"$out/sessions" < tests/sessions.script > "$out/given"
+cmp tests/sessions.expected "$out/given" || fail "an entry gives not what tests/sessions.py reads out of document 01"
+echo "sessions: the entries give what tests/sessions.py reads out of document 01"
 compile_c stack tests/stack.c
-"$out/stack" < crates/tables/stdin
+"$out/stack" < crates/test_tables/stdin
 
 compile_c dock_c examples/dock.c
 rustc -O --edition 2021 --crate-type rlib --crate-name glasspuddle \

@@ -9,6 +9,11 @@
 #include <stdio.h>
 #include <string.h>
 
+// The preprocessor can compare it. tests/numbers.sh compares it with the changelog's.
+#if GLASSPUDDLE_VERSION < 10000
+#error "no version"
+#endif
+
 #define AT(type, field, offset, size)                                                              \
     static_assert(offsetof(type, field) == (offset) && sizeof((type *)0)->field == (size),         \
                   #type "." #field " lies elsewhere")
@@ -196,7 +201,8 @@ int main(void) {
     each_field_is_read();
     any_record_is_handed_back();
     if (failures == 0) {
-        printf("layout: header and archive agree\n");
+        printf("layout: header %d.%d.%d and archive agree\n", GLASSPUDDLE_VERSION_MAJOR,
+               GLASSPUDDLE_VERSION_MINOR, GLASSPUDDLE_VERSION_PATCH);
     }
     return failures != 0;
 }

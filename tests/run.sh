@@ -4,12 +4,16 @@
 set -e
 program=${1:-target/bin/glasspuddle}
 sh tests/build.sh
-target/tests/reference tables < crates/tables/stdin | diff crates/tables/stdout -
+target/tests/reference tables < crates/test_tables/stdin | diff crates/test_tables/stdout -
 echo "tables: the reference gives the answers reasoned by hand"
 for example in table_a two_ears; do
     "$program" < "examples/$example.bin" | diff "examples/$example.expected" -
     echo "example $example: same"
 done
-target/tests/calls
+target/tests/calls > target/tests/calls.out || { cat target/tests/calls.out; exit 1; }
+cat target/tests/calls.out
 target/tests/compare "$program"
 sh tests/dock.sh "$program"
+sh tests/numbers.sh
+# Last, since the pages also say how many calls were made.
+sh tests/pages.sh

@@ -1,5 +1,5 @@
-// A script of calls (tests/SESSIONS.md) through the archive: sessions < crates/sessions/stdin. The
-// entry "gives what the by-value call gives", so it prints what crates/sessions/stdout has.
+// A script of calls (tests/SESSIONS.md) through the archive: sessions < tests/sessions.script. It
+// prints what tests/sessions.py, written from document 01 alone, has in tests/sessions.expected.
 
 #include "glasspuddle.h"
 #include <inttypes.h>

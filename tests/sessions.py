@@ -3,7 +3,7 @@
 
 Written from the text of document 01 alone; "01:" below cites its sections.
 Usage:
-    python3 tests/sessions.py < crates/sessions/stdin   prints one line for each call
+    python3 tests/sessions.py < tests/sessions.script   prints one line for each call
     python3 tests/sessions.py --self-test [script]      runs compared with the one model;
                                                  the script's tables and rows too
 """

@@ -1,5 +1,5 @@
 #!/usr/bin/env python3
-"""Writes the script of calls (crates/sessions/stdin) on standard output.
+"""Writes the script of calls (tests/sessions.script) on standard output.
 
 Only bytes and lines are put together here; no answer is worked out.
 Every part says what it tests and why document 01 ("01") gives the answer.

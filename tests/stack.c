@@ -1,4 +1,4 @@
-// The stack that the calls take: stack < crates/tables/stdin, tables as lines of hex. Each call
+// The stack that the calls take: stack < crates/test_tables/stdin, tables as lines of hex. Each call
 // runs on a painted stack; all from the lowest byte that is no longer painted was used. Ends with 0
 // if no call takes more than docs/INTEGRATORS.md says.
 

@@ -1,4 +1,4 @@
-"""Writes crates/tables/stdin (tables as lines of hex, each under a comment) and crates/tables/stdout
+"""Writes crates/test_tables/stdin (tables as lines of hex, each under a comment) and crates/test_tables/stdout
 (the check's answers, one line a table). Every answer is reasoned by hand from document 01 and
 stands next to its table; nothing here computes an answer."""
 

@@ -1,19 +1,19 @@
-//! The tables of crates/tables/stdin through both programs, with no rows: the answers reasoned by hand
-//! in crates/tables/stdout say what is printed.
+//! The tables of crates/test_tables/stdin through both programs, with no rows: the answers reasoned by hand
+//! in crates/test_tables/stdout say what is printed.
 
 use crate::counts::Counts;
 use crate::report::{compare, same};
 use reference::program::answer;
 use std::path::Path;
 
-const TABLES: &str = include_str!("../../crates/tables/stdin");
-const ANSWERS: &str = include_str!("../../crates/tables/stdout");
+const TABLES: &str = include_str!("../../crates/test_tables/stdin");
+const ANSWERS: &str = include_str!("../../crates/test_tables/stdout");
 
 pub fn check(program: &Path, counts: &mut Counts) -> Result<(), String> {
     let tables = TABLES.lines().filter(|line| !line.starts_with('#'));
     for (number, (hex, expected)) in tables.zip(ANSWERS.lines()).enumerate() {
         let input = input(hex);
-        let name = format!("table {} of crates/tables/stdin", number + 1);
+        let name = format!("table {} of crates/test_tables/stdin", number + 1);
         let printed = match expected.starts_with("0 0 ") {
             true => "end 0\n".to_string(),
             false => format!("r {expected}\n"),

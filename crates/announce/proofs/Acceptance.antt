@@ -1,33 +1,35 @@
 -- What the check announces is what document 01 says of the table: accepted exactly under its conditions, with its numbers; refused with
 -- its number and place. Two answers that the document allows are equal.
 -- Assumes nothing.
-use Prim.Native.Nat.{ℕ, suc, _+_, _*_, _≤_, _<_}
+use Prim.Native.Nat.{ℕ, suc, _≤_, _<_}
 use native.Mathlib.Omega.{arith}
-use mathlib.Core.Path.{_≡_, refl, sym, ap, ap₂, _∙_, subst}
+use mathlib.Core.Path.{_≡_, refl, sym, _∙_, subst}
 use mathlib.Core.Bool.{Bool, true, false, cond}
 use mathlib.Core.Logic.{_⊎_, inl, inr, ⊎-elim}
 use mathlib.Core.List.{List}
-use borrow.Author.Tests.{lt-ltb, le-ltb, lt-leb, le-leb, leb-true, leb-false}
+use borrow.Author.Tests.{lt-ltb, le-ltb, le-leb, leb-true, leb-false}
 use lib.Dec.{leb}
 use lib.IntN.{ℤ, pos}
-use lib.Signed.{_≤ℤ_, _<ℤ_, clashℤ}
-use lib.ListN.{length, getD, replicate, length-replicate}
+use lib.Signed.{_≤ℤ_, clashℤ}
+use lib.ListN.{length, getD, length-replicate}
 use lib.Seq.{ext-getD}
-use Rattle.basis.specs.Sums.{total, most}
-use Rattle.basis.specs.Edges.{among}
+use Rattle.limits.specs.Limits.{mostStreams, mostWords}
+use Rattle.limits.specs.Refusals.{wrongLoop, overWords}
+use Rattle.basis.specs.Sums.{total}
 use Rattle.basis.proofs.Sums.{total-same, most-same}
 use Rattle.basis.proofs.Tests.{lt-or-ge}
 use Rattle.node.proofs.Tabulated.{same-at}
 use Rattle.table.specs.Table.{Table, Decoded, decoded, refused, decode, streams, edges}
 use Rattle.table.specs.Answers.{scanOf}
+use Rattle.table.proofs.Decoding.{same-table}
 use Rattle.table.proofs.Sound.{refusal-number}
-use Rattle.walks.specs.Walks.{Walk, LoopsBelow, LookAhead, Kept, PlaceOfLoop, Right}
+use Rattle.walks.specs.Walks.{Walk, LoopsBelow, LookAhead, Kept, PlaceOfLoop}
 use Rattle.walks.specs.Longest.{squareOf, through, loopsBelow, placeOf, keptOf}
 use Rattle.walks.proofs.Announced.{accepted-loops, accepted-look, loops-accepted, refused-place}
 use Rattle.walks.proofs.Kept.{kept-is}
 use Rattle.walks.proofs.Unique.{right-one, place-one, below-no-place}
-use Rattle.square.specs.Square.{firsts}
-use Rattle.square.proofs.Rows.{getD-firsts, firsts-past, length-firsts}
+use Rattle.basis.specs.Firsts.{firsts}
+use Rattle.basis.proofs.Firsts.{getD-firsts, firsts-past, length-firsts}
 use Rattle.announce.specs.declared.Checked.{Checked}
 use Rattle.announce.specs.Announced.{lookAhead, keptValues, storeWords, roomBytes, closingTurns, refusal, acceptance, weighTable, announced}
 use Rattle.announce.specs.Conditions.{edgesOf, Numbers, Accepted, Refusal, by-grammar, by-loop, by-store, Announces, Refuses, Answers}
@@ -38,8 +40,8 @@ refuses : {s : List ℕ} {n p : ℕ} → Refusal s n p → 1 ≤ n → Refuses s
 refuses r h = record {
   refusal = r;
   some = h;
-  sizes = (length-replicate {A = ℕ} 32 0, length-replicate {A = ℕ} 32 0);
-  zeros = λ v. (same-at 0 32 v, same-at 0 32 v);
+  sizes = (length-replicate {A = ℕ} mostStreams 0, length-replicate {A = ℕ} mostStreams 0);
+  zeros = λ v. (same-at 0 mostStreams v, same-at 0 mostStreams v);
   nothing = (refl, (refl, refl));
 }
 
@@ -58,8 +60,8 @@ module _ (s : List ℕ) (t : Table) (e : decode s ≡ decoded t) where
   unfolding keptValues
   kept-past v l = rw (le-ltb v S l)
 
-  kept-at : (v : ℕ) → getD (firsts (keptValues t) 32) v 0 ≡ keptValues t v
-  kept-at v = ⊎-elim (λ h. getD-firsts (keptValues t) 32 v 0 h) (λ h. firsts-past (keptValues t) 32 v h ∙ sym (kept-past v (omega (arith, whole x .few)))) (lt-or-ge v 32)
+  kept-at : (v : ℕ) → getD (firsts (keptValues t) mostStreams) v 0 ≡ keptValues t v
+  kept-at v = ⊎-elim (λ h. getD-firsts (keptValues t) mostStreams v 0 h) (λ h. firsts-past (keptValues t) mostStreams v h ∙ sym (kept-past v (omega (arith, whole x .few)))) (lt-or-ge v mostStreams)
 
   -- with every loop below 0 the computed numbers are the document's
   module _ (b : loopsBelow (through (squareOf (edges t)) S) S ≡ true) where
@@ -73,17 +75,17 @@ module _ (s : List ℕ) (t : Table) (e : decode s ≡ decoded t) where
       closing-turns = refl;
     }
 
-    announces : storeWords t ≤ 4096 → Announces s (acceptance t)
+    announces : storeWords t ≤ mostWords → Announces s (acceptance t)
     announces h = record {
       table = t;
       grammar = e;
       loops = accepted-loops (edges t) S (ends x) b;
-      numbers = subst (λ (f : ℕ → ℕ). Numbers t f (λ v. getD (firsts (keptValues t) 32) v 0) (storeWords t) (roomBytes t) (closingTurns t)) (λ d v. sym (look-at x v) d)
+      numbers = subst (λ (f : ℕ → ℕ). Numbers t f (λ v. getD (firsts (keptValues t) mostStreams) v 0) (storeWords t) (roomBytes t) (closingTurns t)) (λ d v. sym (look-at x v) d)
           (subst (λ (f : ℕ → ℕ). Numbers t (lookAhead t) f (storeWords t) (roomBytes t) (closingTurns t)) (λ d v. sym (kept-at v) d) numbers-right);
       store = h;
       number-is = refl;
       place-is = refl;
-      sizes = (length-firsts (lookAhead t) 32, length-firsts (keptValues t) 32);
+      sizes = (length-firsts (lookAhead t) mostStreams, length-firsts (keptValues t) mostStreams);
       past = λ v l. (look-at x v ∙ look-past x v l, kept-at v ∙ kept-past v l);
     }
 
@@ -91,13 +93,13 @@ module _ (s : List ℕ) (t : Table) (e : decode s ≡ decoded t) where
   unfolding weighTable
   answers-of = loops (loopsBelow (through (squareOf (edges t)) S) S) refl
     where
-      store : loopsBelow (through (squareOf (edges t)) S) S ≡ true → (b : Bool) → leb (storeWords t) 4096 ≡ b → Answers s (cond b (acceptance t) (refusal 8 0))
-      store l true h = inl (announces l (leb-true (storeWords t) 4096 h))
-      store l false h = inr (refuses (by-store (lookAhead t) (keptValues t) (storeWords t) (roomBytes t) (closingTurns t) e (accepted-loops (edges t) S (ends x) l) (numbers-right l) (leb-false (storeWords t) 4096 h)) (omega arith))
+      store : loopsBelow (through (squareOf (edges t)) S) S ≡ true → (b : Bool) → leb (storeWords t) mostWords ≡ b → Answers s (cond b (acceptance t) (refusal overWords 0))
+      store l true h = inl (announces l (leb-true (storeWords t) mostWords h))
+      store l false h = inr (refuses (by-store (lookAhead t) (keptValues t) (storeWords t) (roomBytes t) (closingTurns t) e (accepted-loops (edges t) S (ends x) l) (numbers-right l) (leb-false (storeWords t) mostWords h)) (omega arith))
 
       loops : (b : Bool) → loopsBelow (through (squareOf (edges t)) S) S ≡ b
-          → Answers s (cond b (cond (leb (storeWords t) 4096) (acceptance t) (refusal 8 0)) (refusal 7 (placeOf (squareOf (edges t)) S)))
-      loops true h = store h (leb (storeWords t) 4096) refl
+          → Answers s (cond b (cond (leb (storeWords t) mostWords) (acceptance t) (refusal overWords 0)) (refusal wrongLoop (placeOf (squareOf (edges t)) S)))
+      loops true h = store h (leb (storeWords t) mostWords) refl
       loops false h = inr (refuses (by-loop e (refused-place (edges t) S (ends x) h)) (omega arith))
 
 -- the check's answer is one that the document allows
@@ -111,7 +113,7 @@ announced-answers s = go (decode s) refl
 
 -- ---- accepted exactly under the document's conditions
 
-announced-number : (s : List ℕ) (t : Table) → decode s ≡ decoded t → loopsBelow (through (squareOf (edges t)) (streams t)) (streams t) ≡ true → storeWords t ≤ 4096 → announced s .number ≡ 0
+announced-number : (s : List ℕ) (t : Table) → decode s ≡ decoded t → loopsBelow (through (squareOf (edges t)) (streams t)) (streams t) ≡ true → storeWords t ≤ mostWords → announced s .number ≡ 0
 unfolding announced weighTable
 announced-number s t e b h = rw (e, b, le-leb _ _ h)
 
@@ -159,9 +161,6 @@ loop-has-place s t e {n} {v} {k} w h = go (loopsBelow (through (squareOf (edges 
 
 -- ---- two answers that the document allows are equal
 
-same-table : {t u : Table} → decoded t ≡ decoded u → t ≡ u
-same-table p = cc
-
 two-ways : {X : Type 0} {t : Table} {n p : ℕ} → decoded t ≡ refused n p → X
 two-ways q = let z : _≡_ {A = ℕ} 0 1 = cc in absurd (omega arith)
 
@@ -197,7 +196,7 @@ refusal-one (by-store {t = t} look kept w r c e b m h) (by-loop {t = u} {p = p} 
     absurd (below-no-place b (subst (λ (z : Table). PlaceOfLoop (edgesOf z) (streams z) p) i q))
 refusal-one (by-store look kept w r c e b m h) (by-store look′ kept′ w′ r′ c′ e′ b′ m′ h′) = (refl, refl)
 
-same-list : (l m : List ℕ) → length l ≡ 32 → length m ≡ 32 → ((v : ℕ) → getD l v 0 ≡ getD m v 0) → l ≡ m
+same-list : (l m : List ℕ) → length l ≡ mostStreams → length m ≡ mostStreams → ((v : ℕ) → getD l v 0 ≡ getD m v 0) → l ≡ m
 same-list l m p q h = ext-getD 0 l m (p ∙ sym q) (λ i k. h i)
 
 accepted-refused : {s : List ℕ} {r r′ : Checked} → Announces s r → Refuses s r′ → ⊥

@@ -4,3 +4,4 @@ pub mod Cells
 pub mod Numbers
 pub mod Scans
 pub mod Acceptance
+pub mod Room

@@ -7,7 +7,6 @@ use mathlib.Core.List.{List}
 use Rattle.table.specs.Table.{Decoded, decoded, refused, decode}
 use Rattle.table.specs.Answers.{scanOf, numberOf}
 use Rattle.table.specs.declared.Scan.{Scan}
-use Rattle.table.specs.declared.Outcome.{Outcome}
 use Rattle.table.specs.declared.Outcome.the-variants.{Accepted, Refused}
 use Rattle.table.proofs.Decoding.{scan-accepts}
 use Rattle.announce.specs.declared.Checked.{Checked}

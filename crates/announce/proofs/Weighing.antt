@@ -2,24 +2,25 @@
 -- Assumes nothing.
 use Prim.Native.Nat.{ℕ, _+_, _-_, _*_, _≤_, _<_}
 use native.Mathlib.Omega.{arith}
-use mathlib.Core.Path.{_≡_, refl, sym, ap, _∙_, subst}
+use mathlib.Core.Path.{_≡_, sym, ap, _∙_}
 use mathlib.Core.Logic.{_⊎_, inl, inr, ⊎-elim}
-use mathlib.Core.List.{List, _++_}
+use mathlib.Core.List.{List}
 use lib.IntN.{ℤ}
-use lib.ListN.{length, getD, take, replicate, length-replicate}
-use Rattle.basis.specs.Parts.{up, down}
-use Rattle.basis.specs.Edges.{Edge, Has}
-use Rattle.basis.proofs.Tests.{lt-or-ge, lt-or-eq}
+use lib.ListN.{length, getD, take, replicate}
+use Rattle.basis.specs.Notes.{rising, falling}
+use Rattle.limits.specs.Limits.{mostStreams, mostPairs, mostLevels}
+use Rattle.basis.proofs.Tests.{lt-or-ge}
 use Rattle.node.proofs.Tabulated.{same-at}
 use Rattle.expression.specs.Syntax.{Expr}
-use Rattle.expression.specs.Grammar.{Parsed, good, parse}
-use Rattle.expression.specs.References.{references, Refers, rising, falling, noted, Scans, Extremes}
+use Rattle.expression.specs.Grammar.{good, parse}
+use Rattle.expression.specs.References.{references, Refers, noted, Scans, Extremes}
 use Rattle.expression.specs.declared.Scanned.{Scanned}
 use Rattle.expression.proofs.Extremes.{extremes}
 use Rattle.expression.proofs.Sound.{good-right}
-use Rattle.table.specs.Table.{Table, decode, decoded, streams, equationOf, edges}
-use Rattle.table.specs.Answers.{padded, startsOf, scanOf}
+use Rattle.table.specs.Table.{Table, streams, equationOf, edges}
+use Rattle.table.specs.Answers.{padded, scanOf}
 use Rattle.table.specs.Sound.{Sound}
+use Rattle.table.proofs.Decoding.{same-table}
 use Rattle.table.proofs.Sound.{sound}
 use Rattle.table.proofs.Arrays.{padded-length}
 use Rattle.table.specs.declared.Scan.{Scan}
@@ -37,12 +38,12 @@ module _ {s : List ℕ} {t : Table} {types starts : List ℕ} {held : ℕ} (a : 
   no-edge m x v side = no-note m x v (λ k h. let o = edge-output t (fine .outputs) x v k h in ⊎-elim (λ l. omega (arith, o .0)) (λ l. omega (arith, o .1)) side)
 
   -- before the first equation
-  pub weights-none : WeighsTo t (t .inputs) (replicate 1024 0) (replicate 1024 0)
+  pub weights-none : WeighsTo t (t .inputs) (replicate mostPairs 0) (replicate mostPairs 0)
   weights-none = record {
-    rises = λ x v h l. same-at 0 1024 (x * 32 + v) ∙ sym (no-edge _ x v (inl h));
-    falls = λ x v h l. same-at 0 1024 (x * 32 + v) ∙ sym (no-edge _ x v (inl h));
-    no-rise = λ x v h l k. same-at 0 1024 (x * 32 + v);
-    no-fall = λ x v h l k. same-at 0 1024 (x * 32 + v);
+    rises = λ x v h l. same-at 0 mostPairs (x * mostStreams + v) ∙ sym (no-edge _ x v (inl h));
+    falls = λ x v h l. same-at 0 mostPairs (x * mostStreams + v) ∙ sym (no-edge _ x v (inl h));
+    no-rise = λ x v h l k. same-at 0 mostPairs (x * mostStreams + v);
+    no-fall = λ x v h l k. same-at 0 mostPairs (x * mostStreams + v);
   }
 
   -- behind the last
@@ -59,7 +60,7 @@ module _ {s : List ℕ} {t : Table} {types starts : List ℕ} {held : ℕ} (a : 
     abbrev e : Expr
     e = equationOf t y .expr
 
-    parsed : {wanted start : ℕ} → wanted ≡ getD types y 0 → start ≡ getD starts y 0 → parse 16 (take held types) s wanted start ≡ good e (fine .stands y o inside .end)
+    parsed : {wanted start : ℕ} → wanted ≡ getD types y 0 → start ≡ getD starts y 0 → parse mostLevels (take held types) s wanted start ≡ good e (fine .stands y o inside .end)
     parsed p q =
         let f : take held types ≡ t .types = rw (a .streams-are, a .types-are) (padded-take (t .types)) in
         let g : getD types y 0 ≡ getD (t .types) y 0 = rw (a .types-are) (padded-at (t .types) y) in
@@ -67,27 +68,29 @@ module _ {s : List ℕ} {t : Table} {types starts : List ℕ} {held : ℕ} (a : 
         rw (f, p, g, q, h) (fine .stands y o inside .parsed)
 
     refers : Refers y (length (t .types)) (references y e)
-    refers = good-right (t .types) s 16 (getD (t .types) y 0) (equationOf t y .start) (fine .stands y o inside .parsed) .refers y
+    refers = good-right (t .types) s mostLevels (getD (t .types) y 0) (equationOf t y .start) (fine .stands y o inside .parsed) .refers y
 
     -- the notes of the equation's references are those of the table's edges
     module _ (v rise fall : ℕ) (x : Extremes (references y e) y v rise fall) where
       rise-is : rise ≡ riseOf (edges t) y v
-      rise-is = sym (note-one (λ k. 129 + up k - down k) y v
+      unfolding rising
+      rise-is = sym (note-one rising y v
           (λ k h. omega (arith, x .between k (edge-reference t (fine .outputs) y v k h) .0))
           (⊎-elim (λ p. let q = x .largest p in inr (q .0, reference-edge t (fine .outputs) y v (q .0) o inside (q .1), omega (arith, q .2))) (λ p. inl (omega arith)) (lt-or-ge 0 rise)))
 
       fall-is : fall ≡ fallOf (edges t) y v
-      fall-is = sym (note-one (λ k. 128 + down k - up k) y v
+      unfolding falling
+      fall-is = sym (note-one falling y v
           (λ k h. omega (arith, x .between k (edge-reference t (fine .outputs) y v k h) .1))
           (⊎-elim (λ p. let q = x .smallest p in inr (q .0, reference-edge t (fine .outputs) y v (q .0) o inside (q .1), omega (arith, q .2))) (λ p. inl (omega arith)) (lt-or-ge 0 fall)))
 
-    zeros-noted : (v : ℕ) → v < 32 → Extremes (references y e) y v (getD (noted rising e (replicate 32 0)) v 0) (getD (noted falling e (replicate 32 0)) v 0)
-    zeros-noted v h = extremes e refers (replicate 32 0) (replicate 32 0) v h h (same-at 0 32 v) (same-at 0 32 v)
+    zeros-noted : (v : ℕ) → v < mostStreams → Extremes (references y e) y v (getD (noted rising e (replicate mostStreams 0)) v 0) (getD (noted falling e (replicate mostStreams 0)) v 0)
+    zeros-noted v h = extremes e refers (replicate mostStreams 0) (replicate mostStreams 0) v h h (same-at 0 mostStreams v) (same-at 0 mostStreams v)
 
     -- one equation more
     pub weights-more :
         {wanted start : ℕ} {rise fall rise′ fall′ row-rise row-fall : List ℕ} {r : Scanned} → WeighsTo t y rise fall → wanted ≡ getD types y 0 → start ≡ getD starts y 0 →
-        Scans (parse 16 (take held types) s wanted start) (replicate 32 0) (replicate 32 0) row-rise row-fall r →
+        Scans (parse mostLevels (take held types) s wanted start) (replicate mostStreams 0) (replicate mostStreams 0) row-rise row-fall r →
         RowPut rise y row-rise rise′ → RowPut fall y row-fall fall′ → WeighsTo t (y + 1) rise′ fall′
     weights-more {wanted} {start} {rise} {fall} {rise′} {fall′} {row-rise} {row-fall} w p q z f g = record {
       rises = λ x v h k. ⊎-elim (λ b. f .others x v (λ i. omega arith) k ∙ w .rises x v b k) (λ i. let d : x ≡ y = omega arith in rw d (own-rise v k)) (lt-or-ge x y);
@@ -96,14 +99,11 @@ module _ {s : List ℕ} {t : Table} {types starts : List ℕ} {held : ℕ} (a : 
       no-fall = λ x v h b k. g .others x v (λ i. omega arith) k ∙ w .no-fall x v (omega arith) b k;
     }
       where
-        own-rise : (v : ℕ) → v < 32 → getD rise′ (y * 32 + v) 0 ≡ riseOf (edges t) y v
+        own-rise : (v : ℕ) → v < mostStreams → getD rise′ (y * mostStreams + v) 0 ≡ riseOf (edges t) y v
         own-rise v k = f .own v k ∙ ap (λ (l : List ℕ). getD l v 0) (z .rises e _ (parsed p q)) ∙ rise-is v _ _ (zeros-noted v k)
 
-        own-fall : (v : ℕ) → v < 32 → getD fall′ (y * 32 + v) 0 ≡ fallOf (edges t) y v
+        own-fall : (v : ℕ) → v < mostStreams → getD fall′ (y * mostStreams + v) 0 ≡ fallOf (edges t) y v
         own-fall v k = g .own v k ∙ ap (λ (l : List ℕ). getD l v 0) (z .falls e _ (parsed p q)) ∙ fall-is v _ _ (zeros-noted v k)
-
-same-table : {t u : Table} → decoded t ≡ decoded u → t ≡ u
-same-table e = cc
 
 module _ {s : List ℕ} {c : Scan} (x : Scanning s c) where
   whole : Sound s (x .table)
@@ -126,13 +126,13 @@ module _ {s : List ℕ} {c : Scan} (x : Scanning s c) where
   unfolding scanOf
   inputs-are = ap (λ (z : Scan). z .inputs) (x .scan-is)
 
-  pub scan-bounds : (c .inputs ≤ c .streams) × (c .streams ≤ 32)
+  pub scan-bounds : (c .inputs ≤ c .streams) × (c .streams ≤ mostStreams)
   scan-bounds = (omega (arith, inputs-are, arrays-of .streams-are, whole .some-output), omega (arith, arrays-of .streams-are, whole .few))
 
-  pub types-length : length (c .types) ≡ 32
+  pub types-length : length (c .types) ≡ mostStreams
   types-length = ap length (arrays-of .types-are) ∙ padded-length (x .table .types) (whole .few)
 
-  pub scanning-start : (t : Table) → Arrays s t (c .types) (c .starts) (c .streams) → (t .inputs ≤ c .inputs) × WeighsTo t (c .inputs) (replicate 1024 0) (replicate 1024 0)
+  pub scanning-start : (t : Table) → Arrays s t (c .types) (c .starts) (c .streams) → (t .inputs ≤ c .inputs) × WeighsTo t (c .inputs) (replicate mostPairs 0) (replicate mostPairs 0)
   scanning-start t a =
       let e : x .table ≡ t = same-table (sym (x .decodes) ∙ a .decodes) in
       let i : c .inputs ≡ t .inputs = inputs-are ∙ ap (λ (z : Table). z .inputs) e in

@@ -1,14 +1,17 @@
 -- What the check announces of a table's bytes, as it is computed (document 01, "What the check announces" and "Refusal numbers").
 -- `Conditions` says the same in the document's words. Assumes nothing.
-use Prim.Native.Nat.{ℕ, _+_, _*_}
+use Prim.Native.Nat.{ℕ}
 use mathlib.Core.Bool.{cond}
 use mathlib.Core.List.{List}
 use lib.Dec.{leb, ltb}
 use lib.ListN.{length, getD, replicate}
+use Rattle.limits.specs.Limits.{mostStreams, mostWords}
+use Rattle.limits.specs.Refusals.{accepted, wrongLoop, overWords}
 use Rattle.basis.specs.Sums.{total, most}
+use Rattle.records.specs.Kinds.{roomOf}
 use Rattle.table.specs.Table.{Table, Decoded, decoded, refused, decode, streams, edges}
 use Rattle.walks.specs.Longest.{Best, squareOf, through, lookOf, loopsBelow, placeOf, keptOf}
-use Rattle.square.specs.Square.{firsts}
+use Rattle.basis.specs.Firsts.{firsts}
 use Rattle.announce.specs.declared.Checked.{Checked}
 
 -- "The longest walks between all pairs of streams"
@@ -29,7 +32,7 @@ storeWords t = total (keptValues t) (streams t)
 
 -- "Room: 10 bytes for each output and 6 for each trigger"; a trigger's role is 1, every other stream's 0
 unfoldable pub roomBytes : Table → ℕ
-roomBytes t = 10 * length (t .equations) + 6 * total (λ v. getD (t .roles) v 0) (streams t)
+roomBytes t = roomOf (length (t .equations)) (total (λ v. getD (t .roles) v 0) (streams t))
 
 -- "Closing turns: the largest look-ahead"
 unfoldable pub closingTurns : Table → ℕ
@@ -37,15 +40,15 @@ closingTurns t = most (lookAhead t) (streams t)
 
 -- "the check announces zeros" where it refuses
 abbrev pub refusal : ℕ → ℕ → Checked
-refusal n p = record { number = n; place = p; look = replicate 32 0; kept = replicate 32 0; words = 0; room = 0; closing = 0 }
+refusal n p = record { number = n; place = p; look = replicate mostStreams 0; kept = replicate mostStreams 0; words = 0; room = 0; closing = 0 }
 
 abbrev pub acceptance : Table → Checked
 acceptance t =
     record {
-      number = 0;
+      number = accepted;
       place = 0;
-      look = firsts (lookAhead t) 32;
-      kept = firsts (keptValues t) 32;
+      look = firsts (lookAhead t) mostStreams;
+      kept = firsts (keptValues t) mostStreams;
       words = storeWords t;
       room = roomBytes t;
       closing = closingTurns t;
@@ -55,8 +58,8 @@ acceptance t =
 unfoldable pub weighTable : Table → Checked
 weighTable t =
     cond (loopsBelow (longest t) (streams t))
-    (cond (leb (storeWords t) 4096) (acceptance t) (refusal 8 0))
-    (refusal 7 (placeOf (squareOf (edges t)) (streams t)))
+    (cond (leb (storeWords t) mostWords) (acceptance t) (refusal overWords 0))
+    (refusal wrongLoop (placeOf (squareOf (edges t)) (streams t)))
 
 abbrev pub afterScan : Decoded → Checked
 afterScan (decoded t) = weighTable t

@@ -1,11 +1,14 @@
 -- What the check must announce, in document 01's words ("What the check announces", "Refusal numbers"): over walks of any length.
 -- Assumes nothing.
-use Prim.Native.Nat.{ℕ, _+_, _*_, _≤_, _<_}
+use Prim.Native.Nat.{ℕ, _≤_, _<_}
 use mathlib.Core.Path.{_≡_}
 use mathlib.Core.Logic.{_⊎_}
 use mathlib.Core.List.{List}
 use lib.ListN.{length, getD}
+use Rattle.limits.specs.Limits.{mostStreams, mostWords}
+use Rattle.limits.specs.Refusals.{accepted, wrongLoop, overWords}
 use Rattle.basis.specs.Sums.{total, most}
+use Rattle.records.specs.Kinds.{roomOf}
 use Rattle.basis.specs.Edges.{among}
 use Rattle.table.specs.Table.{Table, decoded, refused, decode, streams, edges}
 use Rattle.walks.specs.Walks.{Edges, LoopsBelow, LookAhead, Kept, PlaceOfLoop}
@@ -24,7 +27,7 @@ pub record Numbers (t : Table) (look kept : ℕ → ℕ) (words room closing : �
   -- "Store words: the sum of kept values."
   pub store-words : words ≡ total kept (streams t)
   -- "Room: 10 bytes for each output and 6 for each trigger."
-  pub room-bytes : room ≡ 10 * length (t .equations) + 6 * total (λ v. getD (t .roles) v 0) (streams t)
+  pub room-bytes : room ≡ roomOf (length (t .equations)) (total (λ v. getD (t .roles) v 0) (streams t))
   -- "Closing turns: the largest look-ahead."
   pub closing-turns : closing ≡ most look (streams t)
 
@@ -37,16 +40,16 @@ pub record Accepted (s : List ℕ) : Type 0 where
   pub kept : ℕ → ℕ
   pub look-ahead : (v : ℕ) → v < streams table → LookAhead (edgesOf table) v (look v)
   pub kept-values : (v : ℕ) → v < streams table → Kept (edgesOf table) look v (kept v)
-  pub store : total kept (streams table) ≤ 4096
+  pub store : total kept (streams table) ≤ mostWords
 
 -- Why a table is refused, by number and place.
 pub data Refusal (s : List ℕ) : ℕ → ℕ → Type 0 where
-  -- 1 to 6 and 9: the grammar's first fault
+  -- the grammar's first fault
   by-grammar : {n p : ℕ} → decode s ≡ refused n p → Refusal s n p
-  -- 7: "a loop totals 0 or more", at the "lowest stream with a walk of 1 to S edges back to itself totalling 0 or more"
-  by-loop : {t : Table} {p : ℕ} → decode s ≡ decoded t → PlaceOfLoop (edgesOf t) (streams t) p → Refusal s 7 p
-  -- 8: "store words over 4,096"
-  by-store : {t : Table} (look kept : ℕ → ℕ) (words room closing : ℕ) → decode s ≡ decoded t → LoopsBelow (edgesOf t) → Numbers t look kept words room closing → 4096 < words → Refusal s 8 0
+  -- "a loop totals 0 or more", at the "lowest stream with a walk of 1 to S edges back to itself totalling 0 or more"
+  by-loop : {t : Table} {p : ℕ} → decode s ≡ decoded t → PlaceOfLoop (edgesOf t) (streams t) p → Refusal s wrongLoop p
+  -- "store words over 4,096"
+  by-store : {t : Table} (look kept : ℕ → ℕ) (words room closing : ℕ) → decode s ≡ decoded t → LoopsBelow (edgesOf t) → Numbers t look kept words room closing → mostWords < words → Refusal s overWords 0
 
 -- an accepted answer: number 0, place 0, the announced numbers, 0 past S
 pub record Announces (s : List ℕ) (r : Checked) : Type 0 where
@@ -54,17 +57,17 @@ pub record Announces (s : List ℕ) (r : Checked) : Type 0 where
   pub grammar : decode s ≡ decoded table
   pub loops : LoopsBelow (edgesOf table)
   pub numbers : Numbers table (λ v. getD (r .look) v 0) (λ v. getD (r .kept) v 0) (r .words) (r .room) (r .closing)
-  pub store : r .words ≤ 4096
-  pub number-is : r .number ≡ 0
+  pub store : r .words ≤ mostWords
+  pub number-is : r .number ≡ accepted
   pub place-is : r .place ≡ 0
-  pub sizes : (length (r .look) ≡ 32) × (length (r .kept) ≡ 32)
+  pub sizes : (length (r .look) ≡ mostStreams) × (length (r .kept) ≡ mostStreams)
   pub past : (v : ℕ) → streams table ≤ v → (getD (r .look) v 0 ≡ 0) × (getD (r .kept) v 0 ≡ 0)
 
 -- a refusing answer: a number other than 0 with its place, and zeros
 pub record Refuses (s : List ℕ) (r : Checked) : Type 0 where
   pub refusal : Refusal s (r .number) (r .place)
   pub some : 1 ≤ r .number
-  pub sizes : (length (r .look) ≡ 32) × (length (r .kept) ≡ 32)
+  pub sizes : (length (r .look) ≡ mostStreams) × (length (r .kept) ≡ mostStreams)
   pub zeros : (v : ℕ) → (getD (r .look) v 0 ≡ 0) × (getD (r .kept) v 0 ≡ 0)
   pub nothing : (r .words ≡ 0) × ((r .room ≡ 0) × (r .closing ≡ 0))
 

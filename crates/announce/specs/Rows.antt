@@ -6,8 +6,11 @@ use mathlib.Core.List.{List, _++_}
 use mathlib.Core.Bool.{cond}
 use lib.Dec.{leb}
 use lib.ListN.{length, getD, replicate}
+use Rattle.limits.specs.Limits.{mostStreams, mostWords}
+use Rattle.limits.specs.Refusals.{accepted, overWords}
 use Rattle.basis.specs.Sums.{total, most}
-use Rattle.square.specs.Square.{keptRow}
+use Rattle.records.specs.Kinds.{roomOf}
+use Rattle.kept.specs.Kept.{Looks, Falls, keptRow}
 use Rattle.announce.specs.declared.Checked.{Checked}
 use Rattle.announce.specs.Announced.{refusal}
 use Rattle.table.specs.Table.{Table, decode, decoded, streams, edges}
@@ -18,13 +21,13 @@ use Rattle.walks.specs.Longest.{riseOf, fallOf}
 -- the row y of `all` is `row`, every other one as it was before
 pub record RowPut (before : List ℕ) (y : ℕ) (row after : List ℕ) : Type 0 where
   pub size : length after ≡ length before
-  pub own : (v : ℕ) → v < 32 → getD after (y * 32 + v) 0 ≡ getD row v 0
-  pub others : (x v : ℕ) → (x ≡ y → ⊥) → v < 32 → getD after (x * 32 + v) 0 ≡ getD before (x * 32 + v) 0
+  pub own : (v : ℕ) → v < mostStreams → getD after (y * mostStreams + v) 0 ≡ getD row v 0
+  pub others : (x v : ℕ) → (x ≡ y → ⊥) → v < mostStreams → getD after (x * mostStreams + v) 0 ≡ getD before (x * mostStreams + v) 0
 
--- 129 + the largest and 128 - the smallest weight of an edge of the table from y to v, at y * 32 + v; 0 where there is none
+-- the notes of the largest and of the smallest weight of an edge of the table from y to v, at y * 32 + v; 0 where there is none
 pub record Weighs (t : Table) (rise fall : List ℕ) : Type 0 where
-  pub rises : (y v : ℕ) → y < 32 → v < 32 → getD rise (y * 32 + v) 0 ≡ riseOf (edges t) y v
-  pub falls : (y v : ℕ) → y < 32 → v < 32 → getD fall (y * 32 + v) 0 ≡ fallOf (edges t) y v
+  pub rises : (y v : ℕ) → y < mostStreams → v < mostStreams → getD rise (y * mostStreams + v) 0 ≡ riseOf (edges t) y v
+  pub falls : (y v : ℕ) → y < mostStreams → v < mostStreams → getD fall (y * mostStreams + v) 0 ≡ fallOf (edges t) y v
 
 -- the scan is that of a table that these bytes decode to
 pub record Scanning (s : List ℕ) (c : Scan) : Type 0 where
@@ -41,32 +44,32 @@ pub record Arrays (s : List ℕ) (t : Table) (types starts : List ℕ) (streams-
 
 -- the weights of the equations below y are there, the others are 0
 pub record WeighsTo (t : Table) (y : ℕ) (rise fall : List ℕ) : Type 0 where
-  pub rises : (x v : ℕ) → x < y → v < 32 → getD rise (x * 32 + v) 0 ≡ riseOf (edges t) x v
-  pub falls : (x v : ℕ) → x < y → v < 32 → getD fall (x * 32 + v) 0 ≡ fallOf (edges t) x v
-  pub no-rise : (x v : ℕ) → y ≤ x → x < 32 → v < 32 → getD rise (x * 32 + v) 0 ≡ 0
-  pub no-fall : (x v : ℕ) → y ≤ x → x < 32 → v < 32 → getD fall (x * 32 + v) 0 ≡ 0
+  pub rises : (x v : ℕ) → x < y → v < mostStreams → getD rise (x * mostStreams + v) 0 ≡ riseOf (edges t) x v
+  pub falls : (x v : ℕ) → x < y → v < mostStreams → getD fall (x * mostStreams + v) 0 ≡ fallOf (edges t) x v
+  pub no-rise : (x v : ℕ) → y ≤ x → x < mostStreams → v < mostStreams → getD rise (x * mostStreams + v) 0 ≡ 0
+  pub no-fall : (x v : ℕ) → y ≤ x → x < mostStreams → v < mostStreams → getD fall (x * mostStreams + v) 0 ≡ 0
 
 -- numbers from which kept values can be taken: look-aheads and smallest weights within their bounds
 pub record Fitting (c : Scan) (look fall : List ℕ) : Type 0 where
-  pub few : c .streams ≤ 32
+  pub few : c .streams ≤ mostStreams
   pub outputs : c .inputs ≤ c .streams
-  pub roles : (v : ℕ) → v < 32 → getD (c .roles) v 0 ≤ 1
-  pub look-small : (y : ℕ) → y < 32 → getD look y 0 ≤ 3937
-  pub fall-small : (y v : ℕ) → y < 32 → v < 32 → getD fall (y * 32 + v) 0 ≤ 256
+  pub roles : (v : ℕ) → v < mostStreams → getD (c .roles) v 0 ≤ 1
+  pub look-small : Looks look
+  pub fall-small : Falls fall
 
 -- the announced numbers from a scan, the look-aheads and the smallest weights; refusal 8 where the store words are over 4,096
 unfoldable pub numbersOf : Scan → List ℕ → List ℕ → Checked
 numbersOf c look fall =
     let kept = keptRow look fall (c .streams) in
     let words = total (λ v. getD kept v 0) (c .streams) in
-    cond (leb words 4096)
+    cond (leb words mostWords)
     (record {
-      number = 0;
+      number = accepted;
       place = 0;
       look = look;
       kept = kept;
       words = words;
-      room = 10 * (c .streams - c .inputs) + 6 * total (λ v. getD (c .roles) v 0) (c .streams);
+      room = roomOf (c .streams - c .inputs) (total (λ v. getD (c .roles) v 0) (c .streams));
       closing = most (λ v. getD look v 0) (c .streams);
     })
-    (refusal 8 0)
+    (refusal overWords 0)

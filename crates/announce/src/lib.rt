@@ -1,12 +1,14 @@
 // The check of a table (document 01): from its bytes to look-ahead, kept values, store words, room and closing turns, or to the number
 // and the place of the refusal. It assumes nothing.
 ghost use mathlib.Core.Path.{_≡_};
-ghost use Prim.Native.Nat.{ℕ, _+_, _-_, _*_, _≤_, _<_};
-ghost use lib.ListN.{length, take, getD};
+ghost use Prim.Native.Nat.{ℕ, _+_, _-_, _*_, _<_};
+ghost use lib.ListN.{length, getD};
+ghost use Rattle.limits.specs.Limits.{mostStreams, mostPairs};
 ghost use Rattle.square.specs.Square.{cell, riseBest};
 ghost use Rattle.announce.specs.Announced.{announced, refusal};
 ghost use Rattle.announce.specs.Rows.{RowPut, Weighs, Scanning, Fitting, numbersOf};
-use expression::Scanned;
+use limits::PAIRS_MOST;
+use limits::STREAMS_MOST;
 use table::Outcome;
 use table::Scan;
 
@@ -15,8 +17,8 @@ use table::Scan;
 pub struct Checked {
     pub number: u8,
     pub place: usize,
-    pub look: [u16; 32],
-    pub kept: [u16; 32],
+    pub look: [u16; STREAMS_MOST],
+    pub kept: [u16; STREAMS_MOST],
     pub words: usize,
     pub room: usize,
     pub closing: u16,
@@ -28,36 +30,30 @@ fn refusal_of(number: u8, place: usize) -> Checked
     Checked {
         number: number,
         place: place,
-        look: [0u16; 32],
-        kept: [0u16; 32],
+        look: [0u16; STREAMS_MOST],
+        kept: [0u16; STREAMS_MOST],
         words: 0,
         room: 0,
         closing: 0,
     }
 }
 
-// Puts a row of 32 numbers where those of the stream `y` stand.
-fn put_row(all: &mut [u16; 1024], y: usize, row: &[u16; 32])
-    requires { ⌜ (y < 32) × (length (now all) ≡ 1024) ⌝ }
+// Puts a row of numbers where those of the stream `y` stand.
+fn put_row(all: &mut [u16; PAIRS_MOST], y: usize, row: &[u16; STREAMS_MOST])
+    requires { ⌜ (y < mostStreams) × (length (now all) ≡ mostPairs) ⌝ }
     ensures { λ r. ⌜ RowPut (now (all .entry)) y (now (row .entry)) (now (all .exit)) ⌝ }
 {
     let mut v = 0;
-    while v < 32 {
-        all[y * 32 + v] = row[v];
+    while v < STREAMS_MOST {
+        all[y * STREAMS_MOST + v] = row[v];
         v += 1;
     }
 }
 
 // The weights of all edges: for each pair of streams the largest and the smallest, as `expression::scan_expr` notes them.
 struct Weights {
-    rise: [u16; 1024],
-    fall: [u16; 1024],
-}
-
-fn size(x: u16) -> usize
-    ensures { λ r. ⌜ (r ≡ x) × (r < 65536) ⌝ }
-{
-    x as usize
+    rise: [u16; PAIRS_MOST],
+    fall: [u16; PAIRS_MOST],
 }
 
 // The weights of a table that the scan accepted, each equation scanned once more from where its expression starts.
@@ -68,21 +64,21 @@ fn weights_of(table: &[u8], scan: Scan) -> Weights
     let types = scan.types;
     let starts = scan.starts;
     let streams = scan.streams;
-    let mut rise = [0u16; 1024];
-    let mut fall = [0u16; 1024];
+    let mut rise = [0u16; PAIRS_MOST];
+    let mut fall = [0u16; PAIRS_MOST];
     let mut y = scan.inputs;
     while y < streams {
         let wanted = types[y];
-        let start = size(starts[y]);
-        let mut row_rise = [0u16; 32];
-        let mut row_fall = [0u16; 32];
+        let start = wire::short_size(starts[y]);
+        let mut row_rise = [0u16; STREAMS_MOST];
+        let mut row_fall = [0u16; STREAMS_MOST];
         expression::scan_expr(
             table,
             &types,
             streams,
             wanted,
             start,
-            16,
+            limits::LEVELS_MOST,
             &mut row_rise,
             &mut row_fall,
         );
@@ -97,13 +93,13 @@ fn weights_of(table: &[u8], scan: Scan) -> Weights
 }
 
 // The square of the largest weights, NONE where there is no edge.
-fn square_of(rise: &[u16; 1024]) -> [[i64; 32]; 32]
-    requires { ⌜ length (now rise) ≡ 1024 ⌝ }
-    ensures { λ r. ⌜ ((y v : ℕ) → y < 32 → v < 32 → cell r y v ≡ riseBest (getD (now (rise .entry)) (y * 32 + v) 0)) ⌝ }
+fn square_of(rise: &[u16; PAIRS_MOST]) -> [[i64; STREAMS_MOST]; STREAMS_MOST]
+    requires { ⌜ length (now rise) ≡ mostPairs ⌝ }
+    ensures { λ r. ⌜ ((y v : ℕ) → y < mostStreams → v < mostStreams → cell r y v ≡ riseBest (getD (now (rise .entry)) (y * mostStreams + v) 0)) ⌝ }
 {
-    let mut square = [[0i64; 32]; 32];
+    let mut square = [[0i64; STREAMS_MOST]; STREAMS_MOST];
     let mut y = 0;
-    while y < 32 {
+    while y < STREAMS_MOST {
         let row = row_of(rise, y);
         square[y] = square::square_row(&row);
         y += 1;
@@ -111,36 +107,37 @@ fn square_of(rise: &[u16; 1024]) -> [[i64; 32]; 32]
     square
 }
 
-// The 32 numbers of the stream `y`.
-fn row_of(all: &[u16; 1024], y: usize) -> [u16; 32]
-    requires { ⌜ (y < 32) × (length (now all) ≡ 1024) ⌝ }
-    ensures { λ r. ⌜ ((v : ℕ) → v < 32 → getD r v 0 ≡ getD (now (all .entry)) (y * 32 + v) 0) ⌝ }
+// The numbers of the stream `y`.
+fn row_of(all: &[u16; PAIRS_MOST], y: usize) -> [u16; STREAMS_MOST]
+    requires { ⌜ (y < mostStreams) × (length (now all) ≡ mostPairs) ⌝ }
+    ensures { λ r. ⌜ ((v : ℕ) → v < mostStreams → getD r v 0 ≡ getD (now (all .entry)) (y * mostStreams + v) 0) ⌝ }
 {
-    let mut row = [0u16; 32];
+    let mut row = [0u16; STREAMS_MOST];
     let mut v = 0;
-    while v < 32 {
-        row[v] = all[y * 32 + v];
+    while v < STREAMS_MOST {
+        row[v] = all[y * STREAMS_MOST + v];
         v += 1;
     }
     row
 }
 
 // The announced numbers of a table whose loops are all below 0, or refusal 8.
-fn numbers_of(scan: Scan, look: [u16; 32], fall: &[u16; 1024]) -> Checked
+fn numbers_of(scan: Scan, look: [u16; STREAMS_MOST], fall: &[u16; PAIRS_MOST]) -> Checked
     requires { ⌜ Fitting scan look (now fall) ⌝ }
     ensures { λ r. ⌜ r ≡ numbersOf scan look (now (fall .entry)) ⌝ }
 {
     let streams = scan.streams;
     let roles = scan.roles;
-    let kept = square::kept_of(&look, fall, streams);
+    let kept = kept::kept_of(&look, fall, streams);
     let words = numbers::sum(&kept, streams);
-    if 4096 < words {
-        return refusal_of(8, 0);
+    if limits::STORE_MOST < words {
+        return refusal_of(limits::STORE_WORDS, 0);
     }
-    let room = 10 * (streams - scan.inputs) + 6 * numbers::triggers(&roles, streams);
+    let triggers = numbers::triggers(&roles, streams);
+    let room = records::room_of(streams - scan.inputs, triggers);
     let closing = numbers::largest(&look, streams);
     Checked {
-        number: 0,
+        number: limits::ACCEPTED,
         place: 0,
         look: look,
         kept: kept,
@@ -163,7 +160,7 @@ fn weigh_scan(table: &[u8], scan: Scan) -> Checked
         let look = verdict.look;
         numbers_of(scan, look, &fall)
     } else {
-        refusal_of(7, verdict.place)
+        refusal_of(limits::LOOP, verdict.place)
     }
 }
 

@@ -1,5 +1,6 @@
 pub mod Parts
 pub mod Tests
 pub mod Sums
+pub mod Firsts
 pub mod Edges
 pub mod Written

@@ -1,14 +1,14 @@
 -- Laws of an integer's two parts. An order or a sum in ℤ is a linear fact on them, which omega proves.
 -- Assumes nothing.
-use mathlib.Core.Path.{_≡_, refl, sym, ap, _∙_, subst}
+use mathlib.Core.Path.{_≡_, refl, ap}
 use mathlib.Core.Logic.{_⊎_, inl, inr}
 use mathlib.Core.Bool.{Bool, true, false, not, cond}
-use Prim.Native.Nat.{ℕ, zero, suc, _+_, _-_, _*_, _^_, _≤_, _<_}
+use Prim.Native.Nat.{ℕ, suc, _+_, _-_, _≤_, _<_}
 use native.Mathlib.Omega.{arith}
 use lib.IntN.{ℤ, pos, negsuc, _+ℤ_, subℕ}
 use lib.Signed.{mag, leZ, ltZ, _≤ℤ_, _<ℤ_}
 use Rattle.basis.specs.Parts.{up, down}
-use lib.Dec.{T, ltb, leb, ltb→lt, nltb→le, leb→le, le→leb, lt→ltb}
+use lib.Dec.{T, ltb, ltb→lt, nltb→le, leb→le, le→leb, lt→ltb}
 
 difference-by : (a b : ℕ) (c : Bool) → (T c → a < b) → (T (not c) → b ≤ a) → up (cond c (negsuc (b - suc a)) (pos (a - b))) + b ≡ a + down (cond c (negsuc (b - suc a)) (pos (a - b)))
 difference-by a b true f g = let h = f tt in omega arith
@@ -87,10 +87,6 @@ mag-parts (negsuc a) n h = omega arith
 pub mag-from-parts : (a : ℤ) (n : ℕ) → up a < n → down a ≤ n → mag a < n
 mag-from-parts (pos a) n h k = omega arith
 mag-from-parts (negsuc a) n h k = omega arith
-
--- sums keep the order
-pub sum-mono : {a b c d : ℤ} → a ≤ℤ b → c ≤ℤ d → (a +ℤ c) ≤ℤ (b +ℤ d)
-sum-mono {a} {b} {c} {d} h k = le-from-parts _ _ (omega (arith, sum-parts a c, sum-parts b d, le-parts h, le-parts k))
 
 -- a sum's parts are no larger than the parts' sums
 sum-within : (a b : ℤ) → (up (a +ℤ b) ≡ 0) ⊎ (down (a +ℤ b) ≡ 0) → (up (a +ℤ b) ≤ up a + up b) × (down (a +ℤ b) ≤ down a + down b)

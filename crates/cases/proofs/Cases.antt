@@ -4,7 +4,6 @@ use Prim.Native.Nat.{ℕ}
 use native.Mathlib.Omega.{arith}
 use mathlib.Core.Path.{_≡_, refl, sym, _∙_, subst}
 use mathlib.Core.List.{List, [], _∷_, map}
-use lib.IntN.{pos, negsuc}
 use lib.ListN.{drop}
 use lib.Ieee as Ieee
 use Rattle.basis.specs.Sums.{total, most}
@@ -12,55 +11,41 @@ use Rattle.value.specs.declared.Value.{Value}
 use Rattle.value.specs.declared.Value.the-variants.{Word}
 use Rattle.value.specs.Values.{opOf}
 use Rattle.node.specs.Kinds.{ruleOf, rows, look, meant}
-use Rattle.node.specs.Node.{wordAt, signedOf, nodeOf, nodeBy, nodeAt, typeFault, wordFault, zeroFault, first, faultOf, faultAt, headOf, headBy, headAt}
-use Rattle.node.specs.declared.Node.the-variants.{Now, At}
-use Rattle.expression.specs.Syntax.{leaf, binary}
+use Rattle.node.specs.Node.{signedOf, nodeOf, nodeBy, nodeAt, typeFault, wordFault, zeroFault, first, faultOf, faultAt, headOf, headBy, headAt}
+use Rattle.wire.specs.Bytes.{wordAt}
 use Rattle.expression.specs.Grammar.{operands, step, parse}
 use Rattle.expression.specs.References.{nodeReferences, references}
 use Rattle.table.specs.Records.{recordFault, typeRule, roleRule, headFault, inputFault, outputFault, equationFault, sideOf, streamFault, roleAt, declared, heads}
 use Rattle.table.specs.Table.{Table, decoded, equationAt, equationsAt, tableOf, decode, edgesFrom, edges}
-use Rattle.table.specs.TableA.{tableA}
+use Rattle.table.specs.TableA.{tableA, treeA}
 use Rattle.walks.specs.Longest.{only, squareOf, through, allBelow, loopsBelow, lookTo, lookOf, supTo, back, shortLoop, lowest, placeOf, slackOf, keptOf}
-use Rattle.square.specs.Square.{firsts}
+use Rattle.basis.specs.Firsts.{firsts}
 use Rattle.announce.specs.Announced.{lookAhead, keptValues, storeWords, roomBytes, closingTurns, weighTable, announced}
+use Rattle.table.proofs.Decoding.{same-table}
 use Rattle.table.proofs.TableA.{table-a-decodes}
 use Rattle.lola.specs.Models.{value, refer}
-use Rattle.lola.specs.Run.{gather, owed}
-use Rattle.plan.specs.PlanFor.{planFor}
+use Rattle.run.specs.Run.{gather, owed}
+use Rattle.prepare.specs.PlanFor.{planFor}
 use Rattle.monitor.specs.Turns.{inWords}
 use Rattle.meaning.specs.Expressions.{meaning}
 use Rattle.meaning.specs.Tables.{TableModel}
 use Rattle.cases.specs.Cases.{wordsFrom, AllHold, rowsP2, rowP4, cases}
 
--- "Stream 1 is now(0) - at(0,-1,0); trigger 2 is ahead(now(0), at(0,1,7))."
-abbrev tableOfA : Table
-tableOfA =
-    record {
-      edition = 1;
-      inputs = 1;
-      types = 1 ∷ 1 ∷ 0 ∷ [];
-      roles = 0 ∷ 0 ∷ 1 ∷ [];
-      equations =
-          record { start = 14; expr = binary 0x25 (leaf (Now 0)) (leaf (At 0 (negsuc 0) 0)) }
-          ∷ record { start = 26; expr = binary 0x26 (leaf (Now 0)) (leaf (At 0 (pos 1) 7)) }
-          ∷ [];
-    }
-
 -- table A's model, for a list of rows: streams 1 and 2 read stream 0 only, and that is given
 module _ (rows : List (List ℕ)) (t : Table) (e : decode tableA ≡ decoded t) (σ : ℕ → ℕ → Value) (m : TableModel t rows σ) where
-  same : t ≡ tableOfA
-  same = let q : decoded t ≡ decoded tableOfA = sym e ∙ table-a-decodes in cc
+  same : t ≡ treeA
+  same = same-table (sym e ∙ table-a-decodes)
 
-  pub model-A : TableModel tableOfA rows σ
+  pub model-A : TableModel treeA rows σ
   model-A = subst (λ (u : Table). TableModel u rows σ) same m
 
 -- what holds of every model of table A holds of every model of what its bytes decode to
-of-table-A : (rows : List (List ℕ)) (P : (ℕ → ℕ → Value) → Type 0) → ((σ : ℕ → ℕ → Value) → TableModel tableOfA rows σ → P σ)
+of-table-A : (rows : List (List ℕ)) (P : (ℕ → ℕ → Value) → Type 0) → ((σ : ℕ → ℕ → Value) → TableModel treeA rows σ → P σ)
     → (t : Table) → decode tableA ≡ decoded t → (σ : ℕ → ℕ → Value) → TableModel t rows σ → P σ
 of-table-A rows P h t e σ m = h σ (model-A rows t e σ m)
 
 -- P2 and P3
-module _ (σ : ℕ → ℕ → Value) (m : TableModel tableOfA rowsP2 σ) where
+module _ (σ : ℕ → ℕ → Value) (m : TableModel treeA rowsP2 σ) where
   row0 : σ 0 0 ≡ Word 4294967290
   row0 = m .given 0 0 (omega arith) (omega arith)
 
@@ -83,7 +68,7 @@ module _ (σ : ℕ → ℕ → Value) (m : TableModel tableOfA rowsP2 σ) where
       (rw (row0, row1, row2))
 
 -- P4
-module _ (σ : ℕ → ℕ → Value) (m : TableModel tableOfA rowP4 σ) where
+module _ (σ : ℕ → ℕ → Value) (m : TableModel treeA rowP4 σ) where
   row : σ 0 0 ≡ Word 5
   row = m .given 0 0 (omega arith) (omega arith)
 

@@ -1,19 +1,20 @@
 -- Document 01's cases P1 to P11 ("Examples": "P marks the cases to be proved"), as one list, and what it says of each that it holds.
 -- Assumes nothing.
-use Prim.Native.Nat.{ℕ, zero, suc, _+_, _-_}
+use Prim.Native.Nat.{ℕ, zero, suc, _+_}
 use mathlib.Core.Path.{_≡_}
 use mathlib.Core.List.{List, [], _∷_, _++_, map}
 use lib.ListN.{length, replicate}
+use Rattle.limits.specs.Limits.{mostStreams}
 use Rattle.value.specs.declared.Value.{Value}
 use Rattle.value.specs.Values.{imageOf, readingOf, applyOf}
 use Rattle.table.specs.Table.{Table, decode, decoded}
 use Rattle.table.specs.Answers.{padded}
 use Rattle.table.specs.TableA.{tableA}
-use Rattle.announce.specs.declared.Checked.{Checked}
 use Rattle.announce.specs.Announced.{announced}
-use Rattle.lola.specs.Run.{Given, owed}
+use Rattle.basis.specs.Given.{Given}
+use Rattle.run.specs.Run.{owed}
 use Rattle.meaning.specs.Tables.{TableModel}
-use Rattle.plan.specs.PlanFor.{planFor}
+use Rattle.prepare.specs.PlanFor.{planFor}
 use Rattle.monitor.specs.Turns.{inWords}
 
 pub data Case : Type 0 where
@@ -38,7 +39,7 @@ Holds (applies kind type left right result) = imageOf (applyOf kind (readingOf t
 Holds (announces bytes look kept words room closing) =
     announced bytes ≡ record { number = 0; place = 0; look = padded look; kept = padded kept; words = words; room = room; closing = closing }
 Holds (refuses bytes number place) =
-    announced bytes ≡ record { number = number; place = place; look = replicate 32 0; kept = replicate 32 0; words = 0; room = 0; closing = 0 }
+    announced bytes ≡ record { number = number; place = place; look = replicate mostStreams 0; kept = replicate mostStreams 0; words = 0; room = 0; closing = 0 }
 Holds (gives bytes rows y words) =
     (t : Table) → decode bytes ≡ decoded t → (σ : ℕ → ℕ → Value) → TableModel t rows σ → wordsFrom σ y (length rows) 0 ≡ words
 Holds (owes bytes rows t given) =

@@ -10,6 +10,7 @@ use native.Mathlib.Decide.{ℕ-discrete}
 use lib.ListN.{length, getD, set, length-set}
 use lib.Seq.{getD-set-same, getD-set-other}
 use lib.Bits.{bitXor}
+use Rattle.limits.specs.Limits.{mostStreams}
 use Rattle.basis.proofs.Tests.{lt-or-eq}
 use Rattle.certificate.specs.Tally.{bit}
 use Rattle.certificate.specs.Line.{Ready, Lined, Stuck}
@@ -58,7 +59,7 @@ left-all (suc s) m h = omega (arith, h s (omega arith), left-all s m (λ v l. h 
 -- the line so far: the streams that are not in the rest
 pub record Way (tight : List ℕ) (s n rest : ℕ) (order : List ℕ) : Type 0 where
   pub within : n ≤ s
-  pub long : length order ≡ 32
+  pub long : length order ≡ mostStreams
   pub closed : (i : ℕ) → i < n → (getD order i 0 < s) × (bit rest (getD order i 0) ≡ 0)
   pub placed : (y : ℕ) → y < s → bit rest y ≡ 0 → (i : ℕ) × (i < n) × (getD order i 0 ≡ y)
   pub before : (i v : ℕ) → i < n → v < s → bit (getD tight (getD order i 0) 0) v ≡ 1 → (j : ℕ) × (j < i) × (getD order j 0 ≡ v)
@@ -66,7 +67,7 @@ pub record Way (tight : List ℕ) (s n rest : ℕ) (order : List ℕ) : Type 0 w
   pub count : n + left s rest ≡ s
 
 module _ (tight : List ℕ) (s : ℕ) where
-  pub way-start : (rest : ℕ) (order : List ℕ) → length order ≡ 32 → ((v : ℕ) → v < s → bit rest v ≡ 1) → Way tight s 0 rest order
+  pub way-start : (rest : ℕ) (order : List ℕ) → length order ≡ mostStreams → ((v : ℕ) → v < s → bit rest v ≡ 1) → Way tight s 0 rest order
   way-start o order e h = record {
     within = omega arith;
     long = e;
@@ -91,7 +92,7 @@ module _ (tight : List ℕ) (s : ℕ) where
         let q = left-some s o (λ e. let c = w .count in omega arith) in
         record { rest = o; y = q .0; inside = q .1; is = q .2; on = λ y l b. and-some (getD tight y 0) o (r .none g y l b) }
 
-    module _ (y : ℕ) (l : y < s) (s32 : s ≤ 32) (r : Ready tight o s y) where
+    module _ (y : ℕ) (l : y < s) (s32 : s ≤ mostStreams) (r : Ready tight o s y) where
       order′ : List ℕ
       order′ = set order n y
 

@@ -13,6 +13,7 @@ use lib.Seq.{getD-set-same, getD-set-other}
 use lib.Dec.{eqb}
 use lib.IntN.{ℤ}
 use borrow.Author.Tests.{eqb-true, eqb-false}
+use Rattle.limits.specs.Limits.{mostStreams, riseOfZero, fallOfZero}
 use Rattle.basis.specs.Parts.{up, down}
 use Rattle.basis.specs.Edges.{Edge, Has, among}
 use Rattle.basis.proofs.Edges.{has-after, has-before, has-either}
@@ -43,7 +44,7 @@ module _ (E F : Edges) (to : (y v : ℕ) (k : ℤ) → E y v k → F y v k) (fro
   }
 
 -- before any edge
-pub none-noted : (look : ℕ → ℕ) (t m : List ℕ) → length t ≡ 32 → length m ≡ 32 → ((y : ℕ) → y < 32 → getD t y 0 ≡ 0) → ((y : ℕ) → y < 32 → getD m y 0 ≡ 0) → Tally (among []) look t m
+pub none-noted : (look : ℕ → ℕ) (t m : List ℕ) → length t ≡ mostStreams → length m ≡ mostStreams → ((y : ℕ) → y < mostStreams → getD t y 0 ≡ 0) → ((y : ℕ) → y < mostStreams → getD m y 0 ≡ 0) → Tally (among []) look t m
 none-noted look t m a b p q = record {
   long = (a, b);
   slack = λ y v k e. no-edge refl e;
@@ -69,7 +70,7 @@ module _ (rs es : List Edge) {look : ℕ → ℕ} {t m : List ℕ} where
       go (new l h) = has-before es h
 
 -- the largest weight to v leaves no slack
-pub cell-lacks : (rs : List Edge) {y v s : ℕ} {rise fall : ℕ → ℕ} → Row rs y rise fall s → v < s → {look : ℕ → ℕ} → 1 ≤ rise v → look y + 129 < rise v + look v → Lacks look rs
+pub cell-lacks : (rs : List Edge) {y v s : ℕ} {rise fall : ℕ → ℕ} → Row rs y rise fall s → v < s → {look : ℕ → ℕ} → 1 ≤ rise v → look y + riseOfZero < rise v + look v → Lacks look rs
 cell-lacks rs {y} {v} x l {look} r h = let q = x .extremes v l .largest r in record { y = y; v = v; k = q .0; has = q .1; lacks = omega (arith, q .2) }
 
 -- the edges of the row to v are noted
@@ -91,7 +92,7 @@ module _ (rs es : List Edge) {y v s : ℕ} {rise fall : ℕ → ℕ} (x : Row rs
   pub cell-none : {look : ℕ → ℕ} {t m : List ℕ} → rise v ≡ 0 → Tally (Upto rs es v) look t m → Tally (Upto rs es (v + 1)) look t m
   cell-none z = tally-same (Upto rs es v) (Upto rs es (v + 1)) (λ a b k e. wider e) (λ a b k e. ⊎-elim (λ h. h) (λ q. absurd (x .extremes v l .none z k (q .2))) (which e))
 
-  module _ {look : ℕ → ℕ} {t m : List ℕ} (y32 : y < 32) (v32 : v < 32) (r : 1 ≤ rise v) (h : rise v + look v ≤ look y + 129) (w : Tally (Upto rs es v) look t m) where
+  module _ {look : ℕ → ℕ} {t m : List ℕ} (y32 : y < mostStreams) (v32 : v < mostStreams) (r : 1 ≤ rise v) (h : rise v + look v ≤ look y + riseOfZero) (w : Tally (Upto rs es v) look t m) where
     slack′ : Slack (Upto rs es (v + 1)) look
     slack′ a b k e = ⊎-elim (w .slack a b k) (λ q. rw (q .0, q .1) (omega (arith, x .extremes v l .between k (q .2) .0))) (which e)
 
@@ -99,23 +100,23 @@ module _ (rs es : List Edge) {y v s : ℕ} {rise fall : ℕ → ℕ} (x : Row rs
     old-tight z = record { k = z .k; edge = wider (z .edge); tight = z .tight }
 
     -- a tight edge is an old one, or the row's largest weight to v is tight
-    which-tight : {a b : ℕ} → Tight (Upto rs es (v + 1)) look a b → Tight (Upto rs es v) look a b ⊎ ((a ≡ y) × (b ≡ v) × (look y + 129 ≡ rise v + look v))
+    which-tight : {a b : ℕ} → Tight (Upto rs es (v + 1)) look a b → Tight (Upto rs es v) look a b ⊎ ((a ≡ y) × (b ≡ v) × (look y + riseOfZero ≡ rise v + look v))
     which-tight {a} {b} z = ⊎-elim
         (λ e. inl (record { k = z .k; edge = e; tight = z .tight }))
         (λ q. let e : up (z .k) + look v ≡ look y + down (z .k) = rw (q .0, q .1) at (z .tight) in inr (q .0, q .1, omega (arith, x .extremes v l .between (z .k) (q .2) .0)))
         (which (z .edge))
 
-    new-tight : look y + 129 ≡ rise v + look v → Tight (Upto rs es (v + 1)) look y v
+    new-tight : look y + riseOfZero ≡ rise v + look v → Tight (Upto rs es (v + 1)) look y v
     new-tight e = let q = x .extremes v l .largest r in record { k = q .0; edge = new (omega arith) (q .1); tight = omega (arith, q .2) }
 
     -- the row of y, with v put in where the largest weight is tight
-    module _ (test : Bool) (holds : test ≡ true → look y + 129 ≡ rise v + look v) (fails : test ≡ false → look y + 129 ≡ rise v + look v → ⊥) where
+    module _ (test : Bool) (holds : test ≡ true → look y + riseOfZero ≡ rise v + look v) (fails : test ≡ false → look y + riseOfZero ≡ rise v + look v → ⊥) where
       row-bits : (b : ℕ) (c : Bool) → c ≡ test → Dec (b ≡ v) → bit (marked (getD t y 0) v c) b ≡ 1 → Tight (Upto rs es (v + 1)) look y b
       row-bits b true q (yes p) e = rw p (new-tight (holds (sym q)))
       row-bits b true q (no p) e = old-tight (w .bits y b y32 (sym (put-other (getD t y 0) v b p) ∙ e))
       row-bits b false q d e = old-tight (w .bits y b y32 e)
 
-      row-tights : (b : ℕ) (c : Bool) → c ≡ test → Dec (b ≡ v) → Tight (Upto rs es v) look y b ⊎ ((b ≡ v) × (look y + 129 ≡ rise v + look v)) → bit (marked (getD t y 0) v c) b ≡ 1
+      row-tights : (b : ℕ) (c : Bool) → c ≡ test → Dec (b ≡ v) → Tight (Upto rs es v) look y b ⊎ ((b ≡ v) × (look y + riseOfZero ≡ rise v + look v)) → bit (marked (getD t y 0) v c) b ≡ 1
       row-tights b true q (yes p) e = rw p (put-own (getD t y 0) v)
       row-tights b true q (no p) (inl e) = put-other (getD t y 0) v b p ∙ w .tights y b y32 e
       row-tights b true q (no p) (inr e) = absurd (p (e .0))
@@ -125,19 +126,19 @@ module _ (rs es : List Edge) {y v s : ℕ} {rise fall : ℕ → ℕ} (x : Row rs
       n : ℕ
       n = marked (getD t y 0) v test
 
-      bits′ : (a b : ℕ) → a < 32 → Dec (a ≡ y) → bit (getD (set t y n) a 0) b ≡ 1 → Tight (Upto rs es (v + 1)) look a b
+      bits′ : (a b : ℕ) → a < mostStreams → Dec (a ≡ y) → bit (getD (set t y n) a 0) b ≡ 1 → Tight (Upto rs es (v + 1)) look a b
       unfolding n
       bits′ a b g (yes p) e = rw p (row-bits b test refl (ℕ-discrete b v) (rw (p, getD-set-same t y (marked (getD t y 0) v test) 0 (omega (arith, w .long))) at e))
       bits′ a b g (no p) e = old-tight (w .bits a b g (rw (getD-set-other t y a (marked (getD t y 0) v test) 0 p) at e))
 
-      tights′ : (a b : ℕ) → a < 32 → Dec (a ≡ y) → Tight (Upto rs es v) look a b ⊎ ((a ≡ y) × (b ≡ v) × (look y + 129 ≡ rise v + look v)) → bit (getD (set t y n) a 0) b ≡ 1
+      tights′ : (a b : ℕ) → a < mostStreams → Dec (a ≡ y) → Tight (Upto rs es v) look a b ⊎ ((a ≡ y) × (b ≡ v) × (look y + riseOfZero ≡ rise v + look v)) → bit (getD (set t y n) a 0) b ≡ 1
       unfolding n
       tights′ a b g (yes p) e = rw (p, getD-set-same t y (marked (getD t y 0) v test) 0 (omega (arith, w .long))) (row-tights b test refl (ℕ-discrete b v) (⊎-elim (λ z. inl (rw p at z)) (λ z. inr (z .1, z .2)) e))
       tights′ a b g (no p) (inl e) = rw (getD-set-other t y a (marked (getD t y 0) v test) 0 p) (w .tights a b g e)
       tights′ a b g (no p) (inr e) = absurd (p (e .0))
 
       -- the largest slack into v, and into another stream
-      own-most : (d : ℕ) → d ≡ (look y + fall v) - (128 + look v) → Most (Upto rs es (v + 1)) look v (max (getD m v 0) d)
+      own-most : (d : ℕ) → d ≡ (look y + fall v) - (fallOfZero + look v) → Most (Upto rs es (v + 1)) look v (max (getD m v 0) d)
       own-most d q = record {
         all = λ a k e. ⊎-elim (λ o. omega (arith, w .mosts v v32 .all a k o)) (λ o. rw (o .0) (omega (arith, x .extremes v l .between k (o .2) .1))) (which e);
         real = go (decLt (getD m v 0) d);
@@ -153,11 +154,11 @@ module _ (rs es : List Edge) {y v s : ℕ} {rise fall : ℕ → ℕ} (x : Row rs
         real = ⊎-elim inl (λ o. inr (o .0, o .1, wider (o .2), o .3)) (z .real);
       }
 
-      mosts′ : (d : ℕ) → d ≡ (look y + fall v) - (128 + look v) → (b : ℕ) → b < 32 → Dec (b ≡ v) → Most (Upto rs es (v + 1)) look b (getD (set m v (max (getD m v 0) d)) b 0)
+      mosts′ : (d : ℕ) → d ≡ (look y + fall v) - (fallOfZero + look v) → (b : ℕ) → b < mostStreams → Dec (b ≡ v) → Most (Upto rs es (v + 1)) look b (getD (set m v (max (getD m v 0) d)) b 0)
       mosts′ d q b g (yes p) = rw (p, getD-set-same m v (max (getD m v 0) d) 0 (omega (arith, w .long))) (own-most d q)
       mosts′ d q b g (no p) = rw (getD-set-other m v b (max (getD m v 0) d) 0 p) (other-most b (getD m b 0) p (w .mosts b g))
 
-      pub cell-noted : (d : ℕ) → d ≡ (look y + fall v) - (128 + look v) → Tally (Upto rs es (v + 1)) look (set t y (marked (getD t y 0) v test)) (set m v (max (getD m v 0) d))
+      pub cell-noted : (d : ℕ) → d ≡ (look y + fall v) - (fallOfZero + look v) → Tally (Upto rs es (v + 1)) look (set t y (marked (getD t y 0) v test)) (set m v (max (getD m v 0) d))
       unfolding n
       cell-noted d q = record {
         long = (length-set t y _ ∙ w .long .0, length-set m v _ ∙ w .long .1);
@@ -172,13 +173,13 @@ pub read-none : {y v : ℕ} {look rise fall : ℕ → ℕ} {top : ℕ} {t m : Li
 read-none e z s l rs es x = cell-none rs es x l (omega arith)
 
 module _ {y v : ℕ} {look rise : ℕ → ℕ} {top have ahead : ℕ} (top-is : top ≡ rise v) (have-is : have ≡ look y) (ahead-is : ahead ≡ look v) (some : top ≡ 0 → ⊥) where
-  pub read-lacks : {fall : ℕ → ℕ} → have + 129 < top + ahead → (s : ℕ) → v < s → (rs : List Edge) → Row rs y rise fall s → Lacks look rs
+  pub read-lacks : {fall : ℕ → ℕ} → have + riseOfZero < top + ahead → (s : ℕ) → v < s → (rs : List Edge) → Row rs y rise fall s → Lacks look rs
   read-lacks h s l rs x = cell-lacks rs x l (omega arith) (omega arith)
 
-  pub read-noted : {fall : ℕ → ℕ} {low mask most : ℕ} {t m : List ℕ} → y < 32 → v < 32 → low ≡ fall v → top + ahead ≤ have + 129 →
-      mask ≡ marked (getD t y 0) v (eqb (have + 129) (top + ahead)) → most ≡ max (getD m v 0) ((have + low) - (128 + ahead)) →
+  pub read-noted : {fall : ℕ → ℕ} {low mask most : ℕ} {t m : List ℕ} → y < mostStreams → v < mostStreams → low ≡ fall v → top + ahead ≤ have + riseOfZero →
+      mask ≡ marked (getD t y 0) v (eqb (have + riseOfZero) (top + ahead)) → most ≡ max (getD m v 0) ((have + low) - (fallOfZero + ahead)) →
       (s : ℕ) → v < s → NotedCell true y v s look rise fall t m (set t y mask) (set m v most)
   read-noted {low} y32 v32 q h e f s l rs es x w =
-      rw (e, f) (cell-noted rs es x l y32 v32 (omega arith) (omega arith) w (eqb (have + 129) (top + ahead))
-      (λ b. omega (arith, eqb-true (have + 129) (top + ahead) b)) (λ b z. eqb-false (have + 129) (top + ahead) b (omega arith))
-      ((have + low) - (128 + ahead)) (omega arith))
+      rw (e, f) (cell-noted rs es x l y32 v32 (omega arith) (omega arith) w (eqb (have + riseOfZero) (top + ahead))
+      (λ b. omega (arith, eqb-true (have + riseOfZero) (top + ahead) b)) (λ b z. eqb-false (have + riseOfZero) (top + ahead) b (omega arith))
+      ((have + low) - (fallOfZero + ahead)) (omega arith))

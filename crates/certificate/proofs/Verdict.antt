@@ -8,9 +8,11 @@ use Prim.Native.Nat.{ℕ, _+_, _≤_, _<_}
 use native.Mathlib.Omega.{arith}
 use native.Mathlib.Decide.{decLt}
 use lib.ListN.{getD}
+use Rattle.basis.specs.Firsts.{of}
+use Rattle.limits.specs.Limits.{mostStreams}
 use Rattle.basis.specs.Edges.{Edge, among}
 use Rattle.walks.specs.Walks.{Within, Kept, Right}
-use Rattle.certificate.specs.Certificate.{of, Ordered, Settled}
+use Rattle.certificate.specs.Certificate.{Ordered, Settled}
 use Rattle.certificate.specs.Tally.{bit, Most, Tally, Lacks}
 use Rattle.certificate.specs.Line.{Lined, Stuck, InLine, Agree, Amiss}
 use Rattle.walks.proofs.Schedule.{slack-of-edge, schedule}
@@ -67,7 +69,7 @@ module _ {t : List ℕ} {s : ℕ} {order : List ℕ} (x : Lined t s order) where
       omega (arith, p .1)
 
 -- the verdict, once every edge is noted
-module _ (es : List Edge) (s : ℕ) (s32 : s ≤ 32) (ends : Within (among es) s) (t m look kept : List ℕ) (x : Tally (among es) (of look) t m) where
+module _ (es : List Edge) (s : ℕ) (s32 : s ≤ mostStreams) (ends : Within (among es) s) (t m look kept : List ℕ) (x : Tally (among es) (of look) t m) where
   module _ (a : Agree t m look kept s) where
     reached′ : Reached (among es) s (of look)
     reached′ y l = ⊎-elim inl (λ n. let b = some-bit (getD t y 0) n in inr (b .0, x .bits y (b .0) (omega arith) (b .1))) (a .reached y l)

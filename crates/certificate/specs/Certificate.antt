@@ -10,10 +10,6 @@ use Rattle.basis.specs.Parts.{up, down}
 use Rattle.walks.specs.Walks.{Edges, Right}
 use Rattle.walks.specs.Schedule.{Schedule}
 
--- a list of numbers as a function of the stream
-abbrev pub of : List ℕ → ℕ → ℕ
-of l v = getD l v 0
-
 -- no edge asks more than the look-ahead of its stream has
 abbrev pub Slack : Edges → (ℕ → ℕ) → Type 0
 Slack E look = (y v : ℕ) (k : ℤ) → E y v k → up k + look v ≤ look y + down k

@@ -8,6 +8,7 @@ use mathlib.Core.List.{List, _++_}
 use lib.ListN.{length, getD}
 use lib.Bits.{bitOr}
 use lib.IntN.{ℤ}
+use Rattle.limits.specs.Limits.{mostStreams}
 use Rattle.basis.specs.Parts.{up, down}
 use Rattle.basis.specs.Edges.{Edge, Has, among}
 use Rattle.walks.specs.Walks.{Edges}
@@ -29,11 +30,11 @@ pub record Most (E : Edges) (look : ℕ → ℕ) (v m : ℕ) : Type 0 where
 
 -- `tight` and `most` hold the edges E, each of which has slack
 pub record Tally (E : Edges) (look : ℕ → ℕ) (tight most : List ℕ) : Type 0 where
-  pub long : (length tight ≡ 32) × (length most ≡ 32)
+  pub long : (length tight ≡ mostStreams) × (length most ≡ mostStreams)
   pub slack : Slack E look
-  pub bits : (y v : ℕ) → y < 32 → bit (getD tight y 0) v ≡ 1 → Tight E look y v
-  pub tights : (y v : ℕ) → y < 32 → Tight E look y v → bit (getD tight y 0) v ≡ 1
-  pub mosts : (v : ℕ) → v < 32 → Most E look v (getD most v 0)
+  pub bits : (y v : ℕ) → y < mostStreams → bit (getD tight y 0) v ≡ 1 → Tight E look y v
+  pub tights : (y v : ℕ) → y < mostStreams → Tight E look y v → bit (getD tight y 0) v ≡ 1
+  pub mosts : (v : ℕ) → v < mostStreams → Most E look v (getD most v 0)
 
 -- rs are the edges of y's equation, to streams below s; `rise` and `fall` hold the largest and the smallest weight of those to each stream
 pub record Row (rs : List Edge) (y : ℕ) (rise fall : ℕ → ℕ) (s : ℕ) : Type 0 where

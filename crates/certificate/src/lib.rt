@@ -4,22 +4,23 @@
 ghost use mathlib.Core.Path.{_≡_};
 ghost use mathlib.Core.List.{List};
 ghost use Prim.Native.Nat.{ℕ, _+_, _-_, _<_, _≤_, max};
+ghost use Rattle.basis.specs.Firsts.{of};
+ghost use Rattle.limits.specs.Limits.{mostStreams};
 ghost use Rattle.basis.specs.Edges.{Edge, among};
 ghost use Rattle.walks.specs.Walks.{Within};
-ghost use Rattle.certificate.specs.Certificate.{of, Settled};
+ghost use Rattle.certificate.specs.Certificate.{Settled};
 ghost use Rattle.certificate.specs.Tally.{marked, Tally, NotedCell, NotedRow};
 ghost use Rattle.certificate.specs.Line.{Ready, InLine, Agreed};
+use limits::STREAMS_MOST;
 
-// A number of a record, to reckon with.
-fn wide(x: u16) -> u32
-    ensures { λ r. ⌜ (r ≡ x) × (r < 65536) ⌝ }
-{
-    x as u32
-}
+// The notes of the weight 0, to reckon with.
+const RISE_OF_ZERO: u32 = limits::RISE_OF_ZERO as u32;
+
+const FALL_OF_ZERO: u32 = limits::FALL_OF_ZERO as u32;
 
 // The set with `v` put in where the test holds.
 fn mark(set: u32, v: usize, test: bool) -> u32
-    requires { ⌜ v < 32 ⌝ }
+    requires { ⌜ v < mostStreams ⌝ }
     ensures { λ r. ⌜ r ≡ marked set v test ⌝ }
 {
     if test { set | 1 << v } else { set }
@@ -39,44 +40,50 @@ fn looser(most: u32, have: u32, want: u32) -> u32
 
 // Notes the edges of y's equation to `v`: whether each has slack.
 fn note_cell(
-    tight: &mut [u32; 32],
-    most: &mut [u32; 32],
-    look: &[u16; 32],
-    rise: &[u16; 32],
-    fall: &[u16; 32],
+    tight: &mut [u32; STREAMS_MOST],
+    most: &mut [u32; STREAMS_MOST],
+    look: &[u16; STREAMS_MOST],
+    rise: &[u16; STREAMS_MOST],
+    fall: &[u16; STREAMS_MOST],
     y: usize,
     v: usize,
 ) -> bool
-    requires { ⌜ (y < 32) × (v < 32) ⌝ }
-    ensures { λ r. ⌜ ((s : ℕ) → v < s → NotedCell r y v s (of (now (look .entry))) (of (now (rise .entry))) (of (now (fall .entry))) (now (tight .entry)) (now (most .entry)) (now (tight .exit)) (now (most .exit))) ⌝ }
+    requires { ⌜ (y < mostStreams) × (v < mostStreams) ⌝ }
+    ensures { λ r. ⌜ ((s : ℕ) → v < s → NotedCell r y v s (of (now (look .entry))) (of (now (rise .entry))) (of (now (fall .entry)))
+        (now (tight .entry)) (now (most .entry)) (now (tight .exit)) (now (most .exit))) ⌝ }
 {
-    let top = wide(rise[v]);
+    let top = wire::short_word(rise[v]);
     if top == 0 {
         return true;
     }
-    let have = wide(look[y]);
-    let ahead = wide(look[v]);
+    let have = wire::short_word(look[y]);
+    let ahead = wire::short_word(look[v]);
     let want = top + ahead;
-    if have + 129 < want {
+    if have + RISE_OF_ZERO < want {
         return false;
     }
-    tight[y] = mark(tight[y], v, have + 129 == want);
-    most[v] = looser(most[v], have + wide(fall[v]), 128 + ahead);
+    tight[y] = mark(tight[y], v, have + RISE_OF_ZERO == want);
+    most[v] = looser(
+        most[v],
+        have + wire::short_word(fall[v]),
+        FALL_OF_ZERO + ahead,
+    );
     true
 }
 
 // Notes the edges of y's equation, whose largest and smallest weights `rise` and `fall` hold: whether each has slack.
 pub fn note_row(
-    tight: &mut [u32; 32],
-    most: &mut [u32; 32],
-    look: &[u16; 32],
-    rise: &[u16; 32],
-    fall: &[u16; 32],
+    tight: &mut [u32; STREAMS_MOST],
+    most: &mut [u32; STREAMS_MOST],
+    look: &[u16; STREAMS_MOST],
+    rise: &[u16; STREAMS_MOST],
+    fall: &[u16; STREAMS_MOST],
     y: usize,
     s: usize,
 ) -> bool
-    requires { ⌜ (y < 32) × (s ≤ 32) ⌝ }
-    ensures { λ r. ⌜ NotedRow r y s (of (now (look .entry))) (of (now (rise .entry))) (of (now (fall .entry))) (now (tight .entry)) (now (most .entry)) (now (tight .exit)) (now (most .exit)) ⌝ }
+    requires { ⌜ (y < mostStreams) × (s ≤ mostStreams) ⌝ }
+    ensures { λ r. ⌜ NotedRow r y s (of (now (look .entry))) (of (now (rise .entry))) (of (now (fall .entry)))
+        (now (tight .entry)) (now (most .entry)) (now (tight .exit)) (now (most .exit)) ⌝ }
 {
     let mut v = 0;
     while v < s {
@@ -90,8 +97,8 @@ pub fn note_row(
 }
 
 // The lowest stream of `rest` none of whose tight targets is in `rest`, or `s`.
-fn ready(tight: &[u32; 32], rest: u32, s: usize) -> usize
-    requires { ⌜ s ≤ 32 ⌝ }
+fn ready(tight: &[u32; STREAMS_MOST], rest: u32, s: usize) -> usize
+    requires { ⌜ s ≤ mostStreams ⌝ }
     ensures { λ r. ⌜ Ready (now (tight .entry)) rest s r ⌝ }
 {
     let mut y = 0;
@@ -107,8 +114,8 @@ fn ready(tight: &[u32; 32], rest: u32, s: usize) -> usize
 }
 
 // The same, with the stream `n` tried first: most tables name their streams in an order that serves.
-fn ready_from(tight: &[u32; 32], rest: u32, s: usize, n: usize) -> usize
-    requires { ⌜ (s ≤ 32) × (n < s) ⌝ }
+fn ready_from(tight: &[u32; STREAMS_MOST], rest: u32, s: usize, n: usize) -> usize
+    requires { ⌜ (s ≤ mostStreams) × (n < s) ⌝ }
     ensures { λ r. ⌜ Ready (now (tight .entry)) rest s r ⌝ }
 {
     if (rest >> n) % 2 == 1 {
@@ -120,8 +127,14 @@ fn ready_from(tight: &[u32; 32], rest: u32, s: usize, n: usize) -> usize
 }
 
 // Whether the record's numbers agree with what was noted.
-fn agrees(tight: &[u32; 32], most: &[u32; 32], look: &[u16; 32], kept: &[u16; 32], s: usize) -> bool
-    requires { ⌜ s ≤ 32 ⌝ }
+fn numbers_agree(
+    tight: &[u32; STREAMS_MOST],
+    most: &[u32; STREAMS_MOST],
+    look: &[u16; STREAMS_MOST],
+    kept: &[u16; STREAMS_MOST],
+    s: usize,
+) -> bool
+    requires { ⌜ s ≤ mostStreams ⌝ }
     ensures { λ r. ⌜ Agreed r (now (tight .entry)) (now (most .entry)) (now (look .entry)) (now (kept .entry)) s ⌝ }
 {
     let mut v = 0;
@@ -129,7 +142,7 @@ fn agrees(tight: &[u32; 32], most: &[u32; 32], look: &[u16; 32], kept: &[u16; 32
         if kept[v] == 0 {
             return false;
         }
-        if wide(kept[v]) - 1 != most[v] {
+        if wire::short_word(kept[v]) - 1 != most[v] {
             return false;
         }
         if look[v] != 0 {
@@ -143,11 +156,11 @@ fn agrees(tight: &[u32; 32], most: &[u32; 32], look: &[u16; 32], kept: &[u16; 32
 }
 
 // Whether the streams below `s` can be put in a line, each behind its tight targets; `order` is lent for it.
-fn ordered(tight: &[u32; 32], s: usize, order: &mut [u8; 32]) -> bool
-    requires { ⌜ s ≤ 32 ⌝ }
+fn ordered(tight: &[u32; STREAMS_MOST], s: usize, order: &mut [u8; STREAMS_MOST]) -> bool
+    requires { ⌜ s ≤ mostStreams ⌝ }
     ensures { λ r. ⌜ InLine r (now (tight .entry)) s (now (order .exit)) ⌝ }
 {
-    *order = [0u8; 32];
+    *order = [0u8; STREAMS_MOST];
     let mut rest: u32 = 4294967295;
     let mut n = 0;
     while n < s {
@@ -165,17 +178,18 @@ fn ordered(tight: &[u32; 32], s: usize, order: &mut [u8; 32]) -> bool
 
 // The verdict on the record's numbers, once every equation is noted; `order` is lent for the order within a turn.
 pub fn settle(
-    tight: &[u32; 32],
-    most: &[u32; 32],
-    look: &[u16; 32],
-    kept: &[u16; 32],
+    tight: &[u32; STREAMS_MOST],
+    most: &[u32; STREAMS_MOST],
+    look: &[u16; STREAMS_MOST],
+    kept: &[u16; STREAMS_MOST],
     s: usize,
-    order: &mut [u8; 32],
+    order: &mut [u8; STREAMS_MOST],
 ) -> bool
-    requires { ⌜ s ≤ 32 ⌝ }
-    ensures { λ r. ⌜ ((es : List Edge) → Within (among es) s → Tally (among es) (of (now (look .entry))) (now (tight .entry)) (now (most .entry)) → Settled r (among es) s (of (now (look .entry))) (of (now (kept .entry))) (now (order .exit))) ⌝ }
+    requires { ⌜ s ≤ mostStreams ⌝ }
+    ensures { λ r. ⌜ ((es : List Edge) → Within (among es) s → Tally (among es) (of (now (look .entry))) (now (tight .entry)) (now (most .entry))
+        → Settled r (among es) s (of (now (look .entry))) (of (now (kept .entry))) (now (order .exit))) ⌝ }
 {
-    if agrees(tight, most, look, kept, s) {
+    if numbers_agree(tight, most, look, kept, s) {
         return ordered(tight, s, order);
     }
     false

@@ -3,44 +3,43 @@
 use Prim.Native.Nat.{ℕ, _+_, _≤_, _<_}
 use native.Mathlib.Omega.{arith}
 use mathlib.Core.Path.{_≡_, refl, sym, ap, _∙_, subst}
-use mathlib.Core.Bool.{Bool, true, false, _&&_, cond, not}
+use mathlib.Core.Bool.{Bool, true, false, _&&_, cond}
 use mathlib.Core.Logic.{_⊎_, inl, inr, ⊎-elim}
 use mathlib.Core.List.{List, [], _++_, map}
-use borrow.Author.Tests.{eq-eqb, eqb-true, le-ltb, lt-ltb}
+use borrow.Author.Tests.{eq-eqb, eqb-true, le-ltb}
 use lib.Dec.{eqb, ltb}
 use lib.ListN.{length, take, drop, replicate}
 use Rattle.basis.proofs.Tests.{true-false}
+use Rattle.basis.specs.Given.{Given}
 use Rattle.value.specs.declared.Value.{Value}
-use Rattle.table.specs.Table.{Table, decode, decoded, streams}
+use Rattle.table.specs.Table.{Table, streams}
 use Rattle.announce.specs.Announced.{announced}
-use Rattle.announce.specs.Conditions.{Accepted, Announces}
+use Rattle.announce.specs.Conditions.{Announces}
 use Rattle.announce.proofs.Acceptance.{announced-answers, accepted-conditions, conditions-accepted}
-use Rattle.lola.specs.Run as run
-use Rattle.lola.specs.Run.{Call, Phase, Rec, words, rowsIn, closed, drained, accepts, answer, isDraining, owed, owedBefore, turn, givenOn, storeAfter}
-use Rattle.lola.specs.Demands.{times, timesIn}
-use Rattle.lola.proofs.Calls.{passed, drain-facts}
-use Rattle.lola.proofs.Demands.{stage, phaseOf}
-use Rattle.lola.proofs.Runs.{sound}
-use Rattle.lola.proofs.Once.{owed-here, owed-once}
-use Rattle.lola.proofs.Unread.{turn-same}
+use Rattle.run.specs.Run as run
+use Rattle.run.specs.Run.{Call, words, rowsIn, closed, drained, answer, isDraining, owed, owedBefore, turn, storeAfter}
+use Rattle.run.specs.Demands.{times, timesIn}
+use Rattle.run.proofs.Calls.{passed, drain-facts}
+use Rattle.run.proofs.Demands.{stage, phaseOf}
+use Rattle.run.proofs.Runs.{sound}
+use Rattle.run.proofs.Once.{owed-here, owed-once}
+use Rattle.run.proofs.Unread.{turn-same}
 use Rattle.meaning.specs.Tables.{Meant, TableModel}
 use Rattle.meaning.specs.Plans.{FitsIn}
 use Rattle.meaning.proofs.Accepted.{accepted-means}
-use Rattle.output.specs.Encoding.{encode}
-use Rattle.plan.specs.PlanFor.{tableIn, tableFor, rowFits, lookFor, keptFor, planFor}
-use Rattle.plan.proofs.Accepted.{PlanAnnounced, plan-announced}
+use Rattle.records.specs.Encoding.{encode}
+use Rattle.prepare.specs.PlanFor.{tableIn, tableFor, lookFor, keptFor, planFor}
+use Rattle.prepare.proofs.Accepted.{plan-words, PlanAnnounced, plan-announced}
 use Rattle.monitor.specs.declared.Run.{Run}
-use Rattle.monitor.specs.declared.Answer.{Answer}
 use Rattle.monitor.specs.declared.Fault.{Fault}
 use Rattle.monitor.specs.Turns.{inWords, bytesOn}
-use Rattle.monitor.specs.Refusals.{afterTable, refuseIf, fine, openFault, rowFault, rowRefusal, drainFault, drainRefusal, closeFault}
+use Rattle.monitor.specs.Refusals.{afterTable, openFault, rowFault, rowRefusal, drainFault, drainRefusal, closeFault}
 use Rattle.monitor.specs.Calls.{After, acceptance, refusal, zeroRun, openCall, rowCall, closeCall, drainCall, Leaves}
-use Rattle.runs.specs.Runs.{recOf, bytesOf, Numbered}
-use Rattle.runs.specs.Ran.{Ran, CodeMeets}
-use Rattle.runs.proofs.Words.{plan-words}
-use Rattle.runs.proofs.Answering.{row-is, drain-is, close-is}
-use Rattle.runs.proofs.Running.{Follows, follows, code-meets}
-use Rattle.demands.specs.Demands.{Demand2, Untouched, Opening, Refusals, Demand3, DEMAND-2, DEMAND-3}
+use Rattle.demands.specs.Runs.{recOf, bytesGiven}
+use Rattle.demands.specs.Ran.{Ran, CodeMeets}
+use Rattle.demands.proofs.Answering.{row-is, drain-is, close-is}
+use Rattle.demands.proofs.Running.{Follows, follows, code-meets}
+use Rattle.demands.specs.Demands.{Untouched, Opening, Refusals, Demand3, DEMAND-2, DEMAND-3}
 
 -- ---- demand 2
 
@@ -145,9 +144,9 @@ module _ (s st₀ : List ℕ) {ks : List (Call ℕ)} {r : Run} {st : List ℕ} {
       over-then (length (rowsIn ks)) (drained ks) (announced s .closing) q (rw (← k) (rw c at h))
 
   bytes-given : (more : List (List ℕ)) → (closed ks ≡ true → more ≡ []) → (σ : ℕ → ℕ → Value) → TableModel (tableFor s) (rowsIn ks ++ more) σ
-      → log ≡ map (bytesOf s) (owedBefore (planFor s) σ (length (rowsIn ks ++ more)) (length (rowsIn ks) + drained ks))
+      → log ≡ map (bytesGiven s) (owedBefore (planFor s) σ (length (rowsIn ks ++ more)) (length (rowsIn ks) + drained ks))
   unfolding planFor
-  bytes-given more c σ m = meets .bytes-are ∙ ap (map (bytesOf s)) (meets .demand3 .gives more c σ m)
+  bytes-given more c σ m = meets .bytes-are ∙ ap (map (bytesGiven s)) (meets .demand3 .gives more c σ m)
 
   module _ (σ : ℕ → ℕ → Value) (y j : ℕ) (o : tableFor s .inputs ≤ y) (l : y < streams (tableFor s)) (h : j < length (rowsIn ks)) where
     given-once : (length (rowsIn ks) ≡ 0) ⊎ (drained ks ≡ announced s .closing)
@@ -166,7 +165,7 @@ module _ (s st₀ : List ℕ) {ks : List (Call ℕ)} {r : Run} {st : List ℕ} {
 
     bytes-same : (n t : ℕ) (ws : List ℕ) → bytesOn s n t ws other ≡ bytesOn s n t ws st
     unfolding bytesOn turn
-    bytes-same n t ws = ap (λ (gs : List (run.Given Value)). encode (tableFor s .roles) (map inWords gs)) (turn-same (planFor s) (plan .rank) (FitsIn (plan .types)) (plan .is) other st alike n t ws (recOf r) .0)
+    bytes-same n t ws = ap (λ (gs : List (Given Value)). encode (tableFor s .roles) (map inWords gs)) (turn-same (planFor s) (plan .rank) (FitsIn (plan .types)) (plan .is) other st alike n t ws (recOf r) .0)
 
     -- two answers with one fault and the same bytes
     same-answers : (f g : Fault) (next : Run) (out a b u v : List ℕ) → f ≡ g → u ≡ v

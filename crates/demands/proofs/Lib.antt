@@ -1,1 +1,3 @@
+pub mod Answering
+pub mod Running
 pub mod Demands

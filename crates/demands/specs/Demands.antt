@@ -7,19 +7,20 @@ use mathlib.Core.Bool.{true, false}
 use mathlib.Core.Logic.{_⊎_}
 use mathlib.Core.List.{List, [], _++_, map}
 use lib.ListN.{length, take, drop}
+use Rattle.limits.specs.Limits.{mostRows}
 use Rattle.value.specs.declared.Value.{Value}
 use Rattle.table.specs.Table.{streams}
 use Rattle.announce.specs.Announced.{announced}
 use Rattle.announce.specs.Conditions.{Accepted}
 use Rattle.lola.specs.Models.{OneModel, trace}
-use Rattle.lola.specs.Run.{Call, rowsIn, closed, drained, owed, owedBefore}
-use Rattle.lola.specs.Demands.{times, timesIn}
+use Rattle.run.specs.Run.{Call, rowsIn, closed, drained, owed, owedBefore}
+use Rattle.run.specs.Demands.{times, timesIn}
 use Rattle.meaning.specs.Tables.{specOf, readIn, TableModel}
-use Rattle.plan.specs.PlanFor.{tableFor, rowFits, lookFor, planFor}
+use Rattle.prepare.specs.PlanFor.{tableFor, rowFits, lookFor, planFor}
 use Rattle.monitor.specs.declared.Run.{Run}
 use Rattle.monitor.specs.Calls.{After, zeroRun, openCall, rowCall, closeCall, drainCall}
-use Rattle.runs.specs.Runs.{bytesOf}
-use Rattle.runs.specs.Ran.{Ran}
+use Rattle.demands.specs.Runs.{bytesGiven}
+use Rattle.demands.specs.Ran.{Ran}
 
 -- ---- Demand 2, of any bytes s
 
@@ -62,7 +63,7 @@ Refusals s =
 pub record Demand3 (s st₀ : List ℕ) (ks : List (Call ℕ)) (r : Run) (st : List ℕ) (log : List (List ℕ)) : Type 0 where
   -- "Then a well-formed row below the row limit is always accepted until closing"
   pub takes-rows :
-      closed ks ≡ false → length (rowsIn ks) < 4294967295 → (ws out : List ℕ) → rowFits (tableFor s) ws ≡ true → announced s .room ≤ length out → rowCall s r ws st out .answer .number ≡ 0
+      closed ks ≡ false → length (rowsIn ks) < mostRows → (ws out : List ℕ) → rowFits (tableFor s) ws ≡ true → announced s .room ≤ length out → rowCall s r ws st out .answer .number ≡ 0
   -- "as are closing and its turns"
   pub takes-closing : closed ks ≡ false → closeCall s r .answer .number ≡ 0
   pub takes-turns :
@@ -72,7 +73,7 @@ pub record Demand3 (s st₀ : List ℕ) (ks : List (Call ℕ)) (r : Run) (st : L
   -- the bytes of every turn are what the model owes on it: of the rows so far followed by ANY further rows, of the rows taken once closed
   pub gives :
       (more : List (List ℕ)) → (closed ks ≡ true → more ≡ []) → (σ : ℕ → ℕ → Value) → TableModel (tableFor s) (rowsIn ks ++ more) σ →
-      log ≡ map (bytesOf s) (owedBefore (planFor s) σ (length (rowsIn ks ++ more)) (length (rowsIn ks) + drained ks))
+      log ≡ map (bytesGiven s) (owedBefore (planFor s) σ (length (rowsIn ks ++ more)) (length (rowsIn ks) + drained ks))
   -- "each output's value for row j is given once, on turn j plus its look-ahead"
   pub once :
       closed ks ≡ true → (length (rowsIn ks) ≡ 0) ⊎ (drained ks ≡ announced s .closing) → (σ : ℕ → ℕ → Value) → TableModel (tableFor s) (rowsIn ks) σ →

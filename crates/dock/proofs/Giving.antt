@@ -6,6 +6,7 @@ use mathlib.Core.Bool.{Bool, true, false, cond}
 use mathlib.Core.List.{List, []}
 use lib.Dec.{ltb}
 use borrow.Author.Tests.{lt-ltb, le-ltb}
+use Rattle.limits.specs.Refusals.{foreignRecord}
 use Rattle.monitor.specs.declared.Run.{Run}
 use Rattle.monitor.specs.declared.Answer.{Answer}
 use Rattle.monitor.specs.declared.Fault.{Fault}
@@ -13,9 +14,9 @@ use Rattle.monitor.specs.Refusals.{fault, afterTable}
 use Rattle.monitor.specs.Calls.{After, openCall, closeCall, Leaves, Opens}
 use Rattle.dock.specs.declared.Record.{Record}
 use Rattle.dock.specs.declared.Reply.{Reply}
-use Rattle.dock.specs.Lent.{replyOf, Left, leftBy, strangeReply, lent, lentOpen, Gives, Lends}
+use Rattle.dock.specs.Lent.{overByte, replyOf, Left, leftBy, strangeReply, lent, lentOpen, Gives, Lends}
 
-pub strange-is : (s : List ℕ) (d : Record) {f : Fault} → f ≡ afterTable s (fault 10 0) → record { held = d; told = record { number = f .number; place = f .place; count = 0 } } ≡ strangeReply s d
+pub strange-is : (s : List ℕ) (d : Record) {f : Fault} → f ≡ afterTable s (fault foreignRecord 0) → record { held = d; told = record { number = f .number; place = f .place; count = 0 } } ≡ strangeReply s d
 unfolding strangeReply
 strange-is s d e = ap (λ (f : Fault). record { held = d; told = record { number = f .number; place = f .place; count = 0 } }) e
 
@@ -24,16 +25,16 @@ gives-as e g = rw e g
 
 module _ (s : List ℕ) (d : Record) (st out : List ℕ) where
   -- what is left, by the byte's test
-  pub lent-by : (x : After) {b : Bool} → ltb 2 (d .phase) ≡ b → lent s d st out x ≡ cond b (record { reply = strangeReply s d; store = st; output = out }) (leftBy x)
+  pub lent-by : (x : After) {b : Bool} → ltb overByte (d .phase) ≡ b → lent s d st out x ≡ cond b (record { reply = strangeReply s d; store = st; output = out }) (leftBy x)
   unfolding lent
   lent-by x e = ap (λ (b : Bool). cond b (record { reply = strangeReply s d; store = st; output = out }) (leftBy x)) e
 
   module _ {a : Reply} where
-    pub gives-strange : (x : After) → 2 < d .phase → a ≡ strangeReply s d → Gives (lent s d st out x) a st out
+    pub gives-strange : (x : After) → overByte < d .phase → a ≡ strangeReply s d → Gives (lent s d st out x) a st out
     gives-strange x h e = gives-as (lent-by x (lt-ltb _ _ h)) (record { reply-is = e; store-is = refl; output-is = refl })
 
     -- the byte is a phase, and the call is that of the run which the record then is
-    pub gives-known : (x : After) {b : Answer} {st1 out1 : List ℕ} → d .phase ≤ 2 → a ≡ replyOf b → Leaves x b st1 out1 → Gives (lent s d st out x) a st1 out1
+    pub gives-known : (x : After) {b : Answer} {st1 out1 : List ℕ} → d .phase ≤ overByte → a ≡ replyOf b → Leaves x b st1 out1 → Gives (lent s d st out x) a st1 out1
     gives-known x h e l = gives-as (lent-by x (le-ltb _ _ h)) (record { reply-is = e ∙ ap replyOf (l .answer-is); store-is = l .store-is; output-is = l .output-is })
 
 -- a call that has no store or no output leaves none, refused or accepted

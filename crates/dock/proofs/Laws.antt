@@ -14,7 +14,7 @@ use Rattle.monitor.specs.Refusals.{openFault, rowFault, closeFault, drainFault}
 use Rattle.monitor.specs.Calls.{After, unless, refusal, zeroRun, openCall, rowCall, closeCall, drainCall}
 use Rattle.dock.specs.declared.Record.{Record}
 use Rattle.dock.specs.declared.Told.{Told}
-use Rattle.dock.specs.Lent.{runOf, recordOf, Left, leftBy, strangeReply, lent, lentOpen, lentRow, lentClose, lentDrain, Lends}
+use Rattle.dock.specs.Lent.{overByte, runOf, recordOf, Left, leftBy, strangeReply, lent, lentOpen, lentRow, lentClose, lentDrain, Lends}
 use Rattle.dock.proofs.Giving.{lent-by}
 use Rattle.dock.proofs.Phases.{phase-of-number, number-of-phase, is-phase}
 
@@ -23,7 +23,7 @@ use Rattle.dock.proofs.Phases.{phase-of-number, number-of-phase, is-pha
 pub run-of-record : (r : Run) → runOf (recordOf r) ≡ r
 run-of-record r = ap (λ (p : Phase). record { look = r .look; kept = r .kept; rows = r .rows; phase = p; done = r .done }) (phase-of-number (r .phase))
 
-pub record-of-run : (d : Record) → d .phase ≤ 2 → recordOf (runOf d) ≡ d
+pub record-of-run : (d : Record) → d .phase ≤ overByte → recordOf (runOf d) ≡ d
 record-of-run d h = ap (λ (n : ℕ). record { look = d .look; kept = d .kept; rows = d .rows; done = d .done; phase = n }) (number-of-phase (d .phase) h)
 
 -- "that entry gives what the by-value call gives"
@@ -63,7 +63,7 @@ module _ (s : List ℕ) (d : Record) (st out : List ℕ) where
   untouched : (x : After) → Refuses (runOf d) st out x → (lent s d st out x .reply .told .number ≡ 0 → ⊥) → Untouched d st out (lent s d st out x)
   unfolding lent strangeReply
   untouched x k =
-      pick-case (λ (y : Left). (y .reply .told .number ≡ 0 → ⊥) → Untouched d st out y) (ltb 2 (d .phase)) _ (leftBy x)
+      pick-case (λ (y : Left). (y .reply .told .number ≡ 0 → ⊥) → Untouched d st out y) (ltb overByte (d .phase)) _ (leftBy x)
       (λ _ n. record { held-is = refl; count-is = refl; store-is = refl; output-is = refl })
       (λ h n. let u = k .leaves n in
       record { held-is = u .held-is ∙ record-of-run d (ltb-false _ _ h); count-is = u .count-is; store-is = u .store-is; output-is = u .output-is })

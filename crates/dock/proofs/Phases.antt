@@ -10,7 +10,7 @@ use denote.Enum.Declared.{tagOf}
 use Rattle.monitor.proofs.Phase.{the-type}
 use Rattle.monitor.specs.declared.Phase.{Phase}
 use Rattle.monitor.specs.declared.Phase.the-variants.{Reading, Draining, Over}
-use Rattle.dock.specs.Lent.{numberOf, phaseOf}
+use Rattle.dock.specs.Lent.{readingByte, drainingByte, overByte, numberOf, phaseOf}
 
 -- a phase's byte is its place among the phases
 pub number-is : (p : Phase) {n : ℕ} → tagOf the-type p ≡ n → n ≡ numberOf p
@@ -20,16 +20,16 @@ number-is Draining h = sym h
 number-is Over h = sym h
 
 module _ (n : ℕ) where
-  pub reading-is : n ≡ 0 → Reading ≡ phaseOf n
+  pub reading-is : n ≡ readingByte → Reading ≡ phaseOf n
   unfolding phaseOf
   reading-is e = rw (eq-eqb _ _ e)
 
-  module _ (not-reading : n ≡ 0 → ⊥) where
-    pub draining-is : n ≡ 1 → Draining ≡ phaseOf n
+  module _ (not-reading : n ≡ readingByte → ⊥) where
+    pub draining-is : n ≡ drainingByte → Draining ≡ phaseOf n
     unfolding phaseOf
     draining-is e = rw (ne-eqb _ _ not-reading, eq-eqb _ _ e)
 
-    pub over-is : (n ≡ 1 → ⊥) → Over ≡ phaseOf n
+    pub over-is : (n ≡ drainingByte → ⊥) → Over ≡ phaseOf n
     unfolding phaseOf
     over-is f = rw (ne-eqb _ _ not-reading, ne-eqb _ _ f)
 
@@ -41,7 +41,7 @@ phase-of-number Draining = refl
 phase-of-number Over = refl
 
 -- and a byte that is a phase is that phase's byte
-pub number-of-phase : (n : ℕ) → n ≤ 2 → numberOf (phaseOf n) ≡ n
+pub number-of-phase : (n : ℕ) → n ≤ overByte → numberOf (phaseOf n) ≡ n
 unfolding numberOf phaseOf
 number-of-phase zero h = refl
 number-of-phase (suc zero) h = refl
@@ -49,7 +49,7 @@ number-of-phase (suc (suc zero)) h = refl
 number-of-phase (suc (suc (suc n))) h = absurd (omega arith)
 
 -- a phase's byte is no strange one
-pub is-phase : (p : Phase) → ltb 2 (numberOf p) ≡ false
+pub is-phase : (p : Phase) → ltb overByte (numberOf p) ≡ false
 unfolding numberOf
 is-phase Reading = refl
 is-phase Draining = refl

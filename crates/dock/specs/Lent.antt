@@ -5,6 +5,7 @@ use mathlib.Core.Path.{_≡_}
 use mathlib.Core.Bool.{cond}
 use mathlib.Core.List.{List, []}
 use lib.Dec.{eqb, ltb}
+use Rattle.limits.specs.Refusals.{foreignRecord}
 use Rattle.monitor.specs.declared.Run.{Run}
 use Rattle.monitor.specs.declared.Answer.{Answer}
 use Rattle.monitor.specs.declared.Phase.{Phase}
@@ -15,14 +16,24 @@ use Rattle.dock.specs.declared.Record.{Record}
 use Rattle.dock.specs.declared.Reply.{Reply}
 use Rattle.dock.specs.declared.Told.{Told}
 
+-- the phases' bytes; no byte above the last one is a phase
+abbrev pub readingByte : ℕ
+readingByte = 0
+
+abbrev pub drainingByte : ℕ
+drainingByte = 1
+
+abbrev pub overByte : ℕ
+overByte = 2
+
 -- the phase as a byte
 unfoldable pub numberOf : Phase → ℕ
-numberOf Reading = 0
-numberOf Draining = 1
-numberOf Over = 2
+numberOf Reading = readingByte
+numberOf Draining = drainingByte
+numberOf Over = overByte
 
 unfoldable pub phaseOf : ℕ → Phase
-phaseOf n = cond (eqb n 0) Reading (cond (eqb n 1) Draining Over)
+phaseOf n = cond (eqb n readingByte) Reading (cond (eqb n drainingByte) Draining Over)
 
 -- the dock's record as the run's, and back
 abbrev pub runOf : Record → Run
@@ -44,12 +55,12 @@ pub record Left : Type 0 where
 abbrev pub leftBy : After → Left
 leftBy x = record { reply = replyOf (x .answer); store = x .store; output = x .output }
 
--- A byte that is no phase is "not a record of this table" (10), after the table's own tests; the record is handed back as it was.
+-- A byte that is no phase is "not a record of this table", after the table's own tests; the record is handed back as it was.
 unfoldable pub strangeReply : (s : List ℕ) → Record → Reply
-strangeReply s d = let f = afterTable s (fault 10 0) in record { held = d; told = record { number = f .number; place = f .place; count = 0 } }
+strangeReply s d = let f = afterTable s (fault foreignRecord 0) in record { held = d; told = record { number = f .number; place = f .place; count = 0 } }
 
 unfoldable pub lent : (s : List ℕ) → Record → (st out : List ℕ) → After → Left
-lent s d st out x = cond (ltb 2 (d .phase)) (record { reply = strangeReply s d; store = st; output = out }) (leftBy x)
+lent s d st out x = cond (ltb overByte (d .phase)) (record { reply = strangeReply s d; store = st; output = out }) (leftBy x)
 
 -- the entries
 abbrev pub lentOpen : (s st : List ℕ) → Left

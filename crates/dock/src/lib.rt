@@ -5,15 +5,23 @@ ghost use mathlib.Core.List.{[]};
 ghost use Rattle.announce.specs.Announced.{announced};
 ghost use Rattle.dock.specs.Lent.{phaseOf, numberOf, runOf, replyOf, strangeReply, lentOpen, lentRow, lentClose, lentDrain, Gives, Lends};
 use announce::Checked;
+use limits::STREAMS_MOST;
 use monitor::Answer;
 use monitor::Phase;
 use monitor::Run;
 
-// The record as C lays it out: `monitor::Run` with its phase as a byte, 0 reading, 1 draining, 2 over. No other byte is a phase.
+// The phases' bytes. No byte above the last one is a phase.
+const READING: u8 = 0;
+
+const DRAINING: u8 = 1;
+
+const OVER: u8 = 2;
+
+// The record as C lays it out: `monitor::Run` with its phase as a byte.
 #[repr(C)]
 pub struct Record {
-    pub look: [u16; 32],
-    pub kept: [u16; 32],
+    pub look: [u16; STREAMS_MOST],
+    pub kept: [u16; STREAMS_MOST],
     pub rows: u32,
     pub done: u16,
     pub phase: u8,
@@ -33,13 +41,13 @@ pub struct Reply {
     pub told: Told,
 }
 
-// The phase of a byte. One above 2 has been refused before (`Record::strange`).
+// The phase of a byte. One above the last has been refused before (`Record::strange`).
 fn phase_of(phase: u8) -> Phase
     ensures { λ r. ⌜ r ≡ phaseOf phase ⌝ }
 {
-    if phase == 0 {
+    if phase == READING {
         Phase::Reading
-    } else if phase == 1 {
+    } else if phase == DRAINING {
         Phase::Draining
     } else {
         Phase::Over
@@ -50,9 +58,9 @@ fn number_of(phase: Phase) -> u8
     ensures { λ r. ⌜ r ≡ numberOf phase ⌝ }
 {
     match phase {
-        Phase::Reading => 0,
-        Phase::Draining => 1,
-        Phase::Over => 2,
+        Phase::Reading => READING,
+        Phase::Draining => DRAINING,
+        Phase::Over => OVER,
     }
 }
 
@@ -100,7 +108,7 @@ impl Record {
         }
     }
 
-    // A byte that is no phase is "not a record of this table" (10). "Every call tests the table first."
+    // A byte that is no phase is "not a record of this table". "Every call tests the table first."
     fn strange(self, table: &[u8]) -> Reply
         ensures { λ r. ⌜ r ≡ strangeReply (now (table .entry)) self ⌝ }
     {
@@ -117,9 +125,10 @@ impl Record {
     }
 
     fn row(self, table: &[u8], store: &mut [u32], row: &[u32], out: &mut [u8]) -> Reply
-        ensures { λ r. ⌜ Gives (lentRow (now (table .entry)) self (now (row .entry)) (now (store .entry)) (now (out .entry))) r (now (store .exit)) (now (out .exit)) ⌝ }
+        ensures { λ r. ⌜ Gives (lentRow (now (table .entry)) self (now (row .entry)) (now (store .entry)) (now (out .entry))) r (now (store .exit))
+            (now (out .exit)) ⌝ }
     {
-        if 2 < self.phase {
+        if OVER < self.phase {
             return self.strange(table);
         }
         let run = self.run_of();
@@ -130,7 +139,7 @@ impl Record {
     fn close(self, table: &[u8]) -> Reply
         ensures { λ r. ⌜ Gives (lentClose (now (table .entry)) self) r [] [] ⌝ }
     {
-        if 2 < self.phase {
+        if OVER < self.phase {
             return self.strange(table);
         }
         let run = self.run_of();
@@ -141,7 +150,7 @@ impl Record {
     fn drain(self, table: &[u8], store: &mut [u32], out: &mut [u8]) -> Reply
         ensures { λ r. ⌜ Gives (lentDrain (now (table .entry)) self (now (store .entry)) (now (out .entry))) r (now (store .exit)) (now (out .exit)) ⌝ }
     {
-        if 2 < self.phase {
+        if OVER < self.phase {
             return self.strange(table);
         }
         let run = self.run_of();
@@ -185,7 +194,8 @@ pub extern "C" fn glasspuddle_row(
     row: &[u32],
     out: &mut [u8],
 ) -> Told
-    ensures { λ r. ⌜ Lends (lentRow (now (table .entry)) (now («record» .entry)) (now (row .entry)) (now (store .entry)) (now (out .entry))) (now («record» .exit)) r (now (store .exit)) (now (out .exit)) ⌝ }
+    ensures { λ r. ⌜ Lends (lentRow (now (table .entry)) (now («record» .entry)) (now (row .entry)) (now (store .entry)) (now (out .entry)))
+        (now («record» .exit)) r (now (store .exit)) (now (out .exit)) ⌝ }
 {
     let held = *record;
     let reply = held.row(table, store, row, out);
@@ -212,7 +222,8 @@ pub extern "C" fn glasspuddle_drain(
     store: &mut [u32],
     out: &mut [u8],
 ) -> Told
-    ensures { λ r. ⌜ Lends (lentDrain (now (table .entry)) (now («record» .entry)) (now (store .entry)) (now (out .entry))) (now («record» .exit)) r (now (store .exit)) (now (out .exit)) ⌝ }
+    ensures { λ r. ⌜ Lends (lentDrain (now (table .entry)) (now («record» .entry)) (now (store .entry)) (now (out .entry)))
+        (now («record» .exit)) r (now (store .exit)) (now (out .exit)) ⌝ }
 {
     let held = *record;
     let reply = held.drain(table, store, out);

@@ -12,6 +12,8 @@ use lib.IntN.{ℤ}
 use lib.ListN.{length, getD, take, length-take}
 use Rattle.basis.proofs.Tests.{pick-case}
 use Rattle.expression.proofs.Operands.{parse-refused}
+use Rattle.limits.specs.Limits.{mostStreams}
+use Rattle.store.specs.Store.{PartIn}
 use Rattle.node.specs.Kinds.{ruleOf}
 use Rattle.node.specs.Node.{nodeOf, nodeBy, nodeAt, faultAt, headOf, headBy, headAt}
 use Rattle.node.proofs.Heads.{faultless}
@@ -22,7 +24,7 @@ use Rattle.node.specs.declared.Node.{Node}
 use Rattle.node.specs.declared.Node.the-variants.{Constant, Now, At, Operator}
 use Rattle.node.specs.Head.{Head}
 use Rattle.node.specs.Head as head
-use Rattle.evaluate.specs.Evaluation.{PartIn, Readable}
+use Rattle.evaluate.specs.Evaluation.{Readable}
 
 -- the kind that an operator's node holds, or k
 abbrev kindIn : ℕ → Node → ℕ
@@ -88,16 +90,16 @@ module _ {l : ℕ} {types kept parts : List ℕ} {n : ℕ} {s : List ℕ} {place
     head-fine = subst Sound head-here (head-sound l _ s _ place)
 
     -- a stream that it names is one of the 32, with its part in the store
-    below : (v : ℕ) → v < length (take (x .streams) types) → (v < 32) × PartIn kept parts n v
+    below : (v : ℕ) → v < length (take (x .streams) types) → (v < mostStreams) × PartIn kept parts n v
     below v h =
         let g : v < x .streams = omega (arith, length-take (x .streams) types, min-le-left (x .streams) (length types)) in
         (omega (arith, x .few), x .part v g)
 
-    pub now-named : {v : ℕ} → node ≡ Now v → (v < 32) × PartIn kept parts n v
+    pub now-named : {v : ℕ} → node ≡ Now v → (v < mostStreams) × PartIn kept parts n v
     unfolding headOf
     now-named {v} e = below v ((rw e at head-fine) .refers)
 
-    pub at-named : {v d : ℕ} {k : ℤ} → node ≡ At v k d → (v < 32) × PartIn kept parts n v
+    pub at-named : {v d : ℕ} {k : ℤ} → node ≡ At v k d → (v < mostStreams) × PartIn kept parts n v
     unfolding headOf
     at-named {v} e = below v ((rw e at head-fine) .refers .0)
 

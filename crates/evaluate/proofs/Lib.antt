@@ -2,6 +2,5 @@ pub mod Offsets
 pub mod References
 pub mod Heads
 pub mod Operands
-pub mod Slots
-pub mod Settles
+pub mod Steps
 pub mod Turns

@@ -21,7 +21,8 @@ use Rattle.node.specs.Head as head
 use Rattle.value.specs.declared.Value.{Value}
 use Rattle.value.specs.Values.{readingOf, applyOf, chooseOf}
 use Rattle.lola.specs.Models.{value, refer}
-use Rattle.evaluate.specs.Evaluation.{heldOf, referredOf, Readable, valueIn, evaluatedOf, Evaluates}
+use Rattle.store.specs.Store.{heldOf}
+use Rattle.evaluate.specs.Evaluation.{referredOf, Readable, valueIn, evaluatedOf, Evaluates}
 use Rattle.meaning.specs.Expressions.{meaning}
 use Rattle.evaluate.specs.declared.Evaluated.{Evaluated}
 use Rattle.evaluate.proofs.Heads.{leaf-here, operator-here}

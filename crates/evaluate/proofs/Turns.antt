@@ -1,4 +1,4 @@
--- The turn's loop: stream by stream in the order given, as lola's turn in place (`Part`) has it.
+-- The turn's loop: stream by stream in the order given, as run's turn in place (`Part`) has it.
 -- Assumes nothing.
 use mathlib.Core.Path.{_≡_, refl, sym, ap, _∙_}
 use mathlib.Core.Bool.{Bool, true, false, _&&_}
@@ -9,16 +9,19 @@ use native.Mathlib.Omega.{arith}
 use borrow.Author.Tests.{lt-ltb, le-ltb}
 use lib.Dec.{ltb}
 use lib.ListN.{length, getD}
+use Rattle.basis.specs.Firsts.{of}
 use Rattle.value.specs.declared.Value.{Value}
 use Rattle.basis.proofs.Tests.{lt-or-ge}
-use Rattle.lola.specs.Turn.{due}
-use Rattle.lola.specs.Run.{Plan, view, dueOf, storeAfter}
-use Rattle.lola.proofs.Due.{due-facts}
-use Rattle.lola.proofs.InPlace.{due-input}
-use Rattle.lola.proofs.Parts.{Part, part-start, part-write, part-skip, part-value, part-end}
-use Rattle.evaluate.specs.Evaluation.{heldOf, valueIn, at0}
-use Rattle.meaning.specs.Plans.{FitsIn}
-use Rattle.evaluate.specs.Turns.{Ready, planIn, freshOf, settledOf, Settles, Turns}
+use Rattle.run.specs.Turn.{due}
+use Rattle.run.specs.Run.{Plan, view, dueOf}
+use Rattle.run.proofs.Due.{due-facts}
+use Rattle.run.proofs.InPlace.{due-input}
+use Rattle.run.proofs.Parts.{Part, part-start, part-write, part-skip, part-value, part-end}
+use Rattle.store.specs.Store.{heldOf, writtenOf}
+use Rattle.meaning.specs.Plans.{planOf, FitsIn}
+use Rattle.evaluate.specs.Evaluation.{valueIn}
+use Rattle.evaluate.specs.Turns.{Turnable, Stepped, Turns}
+use Rattle.evaluate.proofs.Steps.{stream-ready}
 
 -- the streams below rank i have been written
 abbrev pub finOf : (ℕ → ℕ) → (streams i w : ℕ) → Bool
@@ -34,6 +37,13 @@ fin-none rank streams w = go (ltb w streams)
 fin-yes : (rank : ℕ → ℕ) (streams i w : ℕ) → w < streams → rank w < i → finOf rank streams i w ≡ true
 fin-yes rank streams i w h g = rw (lt-ltb _ _ h, lt-ltb _ _ g)
 
+fin-not : (rank : ℕ → ℕ) (streams i w : ℕ) → i ≤ rank w → finOf rank streams i w ≡ false
+fin-not rank streams i w h = go (ltb w streams)
+  where
+    go : (b : Bool) → b && ltb (rank w) i ≡ false
+    go true = le-ltb (rank w) i h
+    go false = refl
+
 -- only the stream of rank i comes in
 fin-same : (rank : ℕ → ℕ) (streams i v w : ℕ) → (w < streams → rank w ≡ i → w ≡ v) → (w ≡ v → ⊥) → finOf rank streams (i + 1) w ≡ finOf rank streams i w
 fin-same rank streams i v w one ne = go (lt-or-ge w streams)
@@ -46,12 +56,12 @@ fin-same rank streams i v w one ne = go (lt-or-ge w streams)
     go (inl h) = ap (λ (b : Bool). ltb w streams && b) (inner h (lt-or-ge (rank w) i))
     go (inr h) = rw (le-ltb _ _ h)
 
-module _ {s types look kept parts starts order : List ℕ} {inputs streams n : ℕ} (x : Ready s types look kept parts starts order inputs streams n) where
+module _ {s types look kept parts starts order : List ℕ} {inputs streams n : ℕ} (x : Turnable s types look kept parts starts order inputs streams n) where
   abbrev pub plan : Plan Value ℕ ℕ
-  plan = planIn (x .closing) (x .room) (x .wellFormed) inputs streams types look kept (x .eqs)
+  plan = planOf inputs streams types (x .eqs) (of look) (of kept) (x .closing) (x .room) (x .wellFormed)
 
   -- the same of another store of the same length
-  abbrev pub moved : {m : ℕ} → m ≡ n → Ready s types look kept parts starts order inputs streams m
+  abbrev pub moved : {m : ℕ} → m ≡ n → Turnable s types look kept parts starts order inputs streams m
   moved e =
       record {
         eqs = x .eqs;
@@ -69,23 +79,26 @@ module _ {s types look kept parts starts order : List ℕ} {inputs streams n : �
         parsed = x .parsed;
       }
 
+  -- the stream that the order has at place i
+  pub named-by : (i : ℕ) → i < streams → {y : ℕ} → y ≡ getD order i 0 → y < streams
+  named-by i h e = omega (arith, e, x .ordered .named i h)
+
 -- how far the turn is: the streams below rank i have been written
 abbrev pub Upto : (s types look kept parts starts order : List ℕ) (inputs streams : ℕ) (ws st : List ℕ) (n t i : ℕ) (cur : List ℕ) → Type 0
 Upto s types look kept parts starts order inputs streams ws st n t i cur =
-    (x : Ready s types look kept parts starts order inputs streams (length st)) →
+    (x : Turnable s types look kept parts starts order inputs streams (length st)) →
     Part (plan x) (x .rank) (FitsIn types) (x .announced) n t ws st (x .fits) (finOf (x .rank) streams i) cur
 
 module _ (s types look kept parts starts order : List ℕ) (inputs streams : ℕ) (ws st : List ℕ) (n t : ℕ) where
   abbrev All : Type 0
-  All = Ready s types look kept parts starts order inputs streams (length st)
+  All = Turnable s types look kept parts starts order inputs streams (length st)
 
   abbrev The : All → (ℕ → Bool) → List ℕ → Type 0
   The x fin cur = Part (plan x) (x .rank) (FitsIn types) (x .announced) n t ws st (x .fits) fin cur
 
   pub upto-none : Upto s types look kept parts starts order inputs streams ws st n t 0 st
   upto-none x =
-      let b = part-start (plan x) (x .rank) (FitsIn types) (x .announced) n t ws st (x .fits) in
-      record { size = b .size; rest = b .rest; word = λ v i l h. rw (fin-none (x .rank) streams v) (b .word v i l h) }
+      part-start (plan x) (x .rank) (FitsIn types) (x .announced) n t ws st (x .fits) (finOf (x .rank) streams 0) (λ v l. fin-none (x .rank) streams v)
 
   module _ (x : All) (i : ℕ) (cur : List ℕ) (pt : The x (finOf (x .rank) streams i) cur) (h : i < streams) where
     abbrev y : ℕ
@@ -100,42 +113,40 @@ module _ (s types look kept parts starts order : List ℕ) (inputs streams : ℕ
     only : (w : ℕ) → (w ≡ y → ⊥) → finOf (x .rank) streams (i + 1) w ≡ finOf (x .rank) streams i w
     only w ne = fin-same (x .rank) streams i y w (λ l e. sym (x .ordered .back w l) ∙ ap (λ (k : ℕ). getD order k 0) e) ne
 
-    -- the value that the step writes is the one due
-    value-due : due (at0 look) n t y ≡ true → freshOf inputs types kept ws cur n (t - getD look y 0) (x .eqs) y ≡ dueOf (plan x) n t ws st y
-    unfolding freshOf valueIn heldOf view
-    value-due d = go (lt-or-ge y inputs)
-      where
-        f : (getD look y 0 ≤ t) × (t < n + getD look y 0)
-        f = due-facts (at0 look) n t y d
+    module _ (e : length cur ≡ length st) {after : List ℕ} (g : Stepped s types look kept parts starts inputs ws cur n t y after) where
+      -- the value that the step writes is the one due
+      value-due : due (of look) n t y ≡ true → g .value ≡ dueOf (plan x) n t ws st y
+      unfolding valueIn heldOf
+      value-due d = go (lt-or-ge y inputs)
+        where
+          f : (getD look y 0 ≤ t) × (t < n + getD look y 0)
+          f = due-facts (of look) n t y d
 
-        go : (y < inputs) ⊎ (inputs ≤ y) → freshOf inputs types kept ws cur n (t - getD look y 0) (x .eqs) y ≡ dueOf (plan x) n t ws st y
-        go (inl l) =
-            rw (lt-ltb _ _ l)
-            (sym (due-input (plan x .spec) (at0 look) (x .rank) (at0 kept) (x .announced .schedule) (x .announced .keeps) (plan x .blank) n t _ (view (plan x) st) y inside l))
-        go (inr l) =
-            rw (le-ltb _ _ l)
-            (part-value (plan x) (x .rank) (FitsIn types) (x .announced) n t ws st (x .fits) (finOf (x .rank) streams i) cur y (t - getD look y 0) pt inside l
-            (omega (arith, f .0)) (omega (arith, f .0, f .1)) (λ w lw g. fin-yes (x .rank) streams i w lw (omega (arith, of-rank, g))))
+          go : (y < inputs) ⊎ (inputs ≤ y) → g .value ≡ dueOf (plan x) n t ws st y
+          go (inl l) =
+              g .fresh d .input l
+              ∙ sym (due-input (plan x .spec) (of look) (x .rank) (of kept) (x .announced .schedule) (x .announced .keeps) (plan x .blank) n t _ (view (plan x) st) y inside l)
+          go (inr l) =
+              g .fresh d .output l (stream-ready (moved x e) y inside .equation l)
+              ∙ part-value (plan x) (x .rank) (FitsIn types) (x .announced) n t ws st (x .fits) (finOf (x .rank) streams i) cur y (t - getD look y 0) pt inside l
+              (omega (arith, f .0)) (omega (arith, f .0, f .1)) (λ w lw k. fin-yes (x .rank) streams i w lw (omega (arith, of-rank, k)))
 
-    step-by : (b : Bool) → due (at0 look) n t y ≡ b → The x (finOf (x .rank) streams (i + 1)) (settledOf inputs types look kept ws cur n t (x .eqs) y)
-    unfolding settledOf
-    step-by true d =
-        rw (d, value-due d)
-        (part-write (plan x) (x .rank) (FitsIn types) (x .announced) n t ws st (x .fits) (finOf (x .rank) streams i) (finOf (x .rank) streams (i + 1)) cur y pt inside d
-        (fin-yes (x .rank) streams (i + 1) y inside (omega (arith, of-rank))) only)
-    step-by false d =
-        rw d
-        (part-skip (plan x) (x .rank) (FitsIn types) (x .announced) n t ws st (x .fits) (finOf (x .rank) streams i) (finOf (x .rank) streams (i + 1)) cur y pt inside d only)
+      step-by : (b : Bool) → due (of look) n t y ≡ b → The x (finOf (x .rank) streams (i + 1)) after
+      unfolding writtenOf
+      step-by true d =
+          rw (g .after-is, d, value-due d)
+          (part-write (plan x) (x .rank) (FitsIn types) (x .announced) n t ws st (x .fits) (finOf (x .rank) streams i) (finOf (x .rank) streams (i + 1)) cur y pt inside d
+          (fin-not (x .rank) streams i y (omega (arith, of-rank))) (fin-yes (x .rank) streams (i + 1) y inside (omega (arith, of-rank))) only)
+      step-by false d =
+          rw (g .after-is, d)
+          (part-skip (plan x) (x .rank) (FitsIn types) (x .announced) n t ws st (x .fits) (finOf (x .rank) streams i) (finOf (x .rank) streams (i + 1)) cur y pt d only)
 
   pub upto-more : (i v : ℕ) {cur after : List ℕ} → length cur ≡ length st → i < streams → v ≡ getD order i 0
-      → Settles s types look kept parts starts order inputs streams ws cur n t v after
+      → Stepped s types look kept parts starts inputs ws cur n t v after
       → Upto s types look kept parts starts order inputs streams ws st n t i cur → Upto s types look kept parts starts order inputs streams ws st n t (i + 1) after
-  upto-more i v {cur} {after} e h ev g u x =
-      let a : after ≡ settledOf inputs types look kept ws cur n t (x .eqs) (getD order i 0) = rw (← ev) (g (moved x e)) in
-      rw a (step-by x i cur (u x) h (due (at0 look) n t (getD order i 0)) refl)
+  upto-more i v {cur} {after} e h ev g u x = step-by x i cur (u x) h e (rw ev at g) (due (of look) n t (getD order i 0)) refl
 
   pub upto-all : (i : ℕ) {cur : List ℕ} → streams ≤ i → Upto s types look kept parts starts order inputs streams ws st n t i cur → Turns s types look kept parts starts order inputs streams ws st n t cur
-  unfolding storeAfter
   upto-all i h u x =
       part-end (plan x) (x .rank) (FitsIn types) (x .announced) n t ws st (x .fits) (finOf (x .rank) streams i) _ (u x)
       (λ v l. fin-yes (x .rank) streams i v l (omega (arith, x .announced .schedule .small v l)))

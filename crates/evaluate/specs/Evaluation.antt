@@ -1,42 +1,23 @@
 -- The value of an expression over the lent store (document 01, "A run"), and what the evaluator's functions answer of it. `types`, `kept` and
 -- `parts` hold a number for each stream, n is the number of rows known, j the position. Assumes nothing.
-use Prim.Native.Nat.{ℕ, _+_, _%_, _≤_, _<_}
+use Prim.Native.Nat.{ℕ, _≤_, _<_}
 use mathlib.Core.Path.{_≡_}
 use mathlib.Core.List.{List}
 use lib.IntN.{ℤ}
-use lib.ListN.{length, getD, take}
+use lib.ListN.{length, take}
 use Rattle.value.specs.declared.Value.{Value}
-use Rattle.value.specs.Values.{readingOf}
+use Rattle.limits.specs.Limits.{mostStreams}
 use Rattle.expression.specs.Syntax.{Expr}
 use Rattle.expression.specs.Grammar.{good, parse}
 use Rattle.lola.specs.Expressions.{at}
 use Rattle.meaning.specs.Expressions.{ops, meaning}
 use Rattle.lola.specs.Models.{value, refer}
-use Rattle.lola.specs.Run.{base}
+use Rattle.store.specs.Store.{readAs, heldOf, PartIn}
 use Rattle.evaluate.specs.declared.Evaluated.{Evaluated}
-
--- a stream's number
-abbrev pub at0 : List ℕ → ℕ → ℕ
-at0 l v = getD l v 0
-
--- "the value for position p lies in word p mod n of its part": the word of the store for position q of stream v
-abbrev pub slotOf : (kept : List ℕ) (v q : ℕ) → ℕ
-slotOf kept v q = base (at0 kept) v + q % getD kept v 0
-
--- the value that the store has of v for position q, read at v's type
-unfoldable pub heldOf : (types kept st : List ℕ) → ℕ → ℕ → Value
-heldOf types kept st v q = readingOf (getD types v 0) (getD st (slotOf kept v q) 0)
-
--- "The store holds one part for each stream, in stream order, as long as its kept number": v's starts where `parts` says, and a store of n
--- words holds it
-pub record PartIn (kept parts : List ℕ) (n v : ℕ) : Type 0 where
-  pub some : 0 < getD kept v 0
-  pub start : getD parts v 0 ≡ base (at0 kept) v
-  pub within : getD parts v 0 + getD kept v 0 ≤ n
 
 -- "at(v, k) at position j is v at j+k, or the default where j+k is below 0 or not below N": d is the default's word
 abbrev pub referredOf : (types kept st : List ℕ) (n j v : ℕ) → ℤ → ℕ → Value
-referredOf types kept st n j v k d = refer (heldOf types kept st) n j (at v k (readingOf (getD types v 0) d))
+referredOf types kept st n j v k d = refer (heldOf types kept st) n j (at v k (readAs types v d))
 
 -- the grammar reads an expression at a place of the table s with l levels left, and each of its streams has its part in a store of n words
 pub record Readable (l : ℕ) (types kept parts : List ℕ) (n : ℕ) (s : List ℕ) (place : ℕ) : Type 0 where
@@ -44,7 +25,7 @@ pub record Readable (l : ℕ) (types kept parts : List ℕ) (n : ℕ) (s : List 
   pub wanted : ℕ
   pub expr : Expr
   pub behind : ℕ
-  pub few : streams ≤ 32
+  pub few : streams ≤ mostStreams
   pub part : (v : ℕ) → v < streams → PartIn kept parts n v
   pub parsed : parse l (take streams types) s wanted place ≡ good expr behind
 

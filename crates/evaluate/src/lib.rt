@@ -1,14 +1,18 @@
 // The evaluator over the table's own bytes, and the turn over the lent store (document 01, "A run"). `types`, `look`, `kept`, `parts`,
 // `starts` and `order` hold a number for each stream; `known` is the number of rows known.
 ghost use mathlib.Core.Path.{_≡_};
-ghost use Prim.Native.Nat.{_+_, _%_, _≤_, _<_, _^_};
-ghost use lib.ListN.{length, getD, set};
+ghost use Prim.Native.Nat.{_+_, _≤_, _<_, _^_};
+ghost use lib.ListN.{length, getD};
 ghost use Rattle.basis.specs.Parts.{up, down};
+ghost use Rattle.limits.specs.Limits.{mostStreams};
 ghost use Rattle.node.specs.Kinds.{ruleOf};
-ghost use Rattle.evaluate.specs.Evaluation.{slotOf, heldOf, referredOf, PartIn, Readable, evaluatedOf, Evaluates};
-ghost use Rattle.evaluate.specs.Turns.{Ready, Fresh, Settles, Turns};
+ghost use Rattle.store.specs.Store.{PartIn};
+ghost use Rattle.evaluate.specs.Evaluation.{referredOf, Readable, evaluatedOf, Evaluates};
+ghost use Rattle.evaluate.specs.Turns.{StreamReady, Fresh, Stepped, Turnable, Turns};
+use limits::STREAMS_MOST;
 use node::Node;
 use value::Value;
+use wire::byte_size;
 
 // An offset is up less down, one of the two being 0.
 fn up_of(k: i8) -> u64
@@ -23,58 +27,19 @@ fn down_of(k: i8) -> u64
     if k < 0 { (-(k as i64)) as u64 } else { 0 }
 }
 
-// A stream's number as a wider one, with its bound.
-pub fn wide(x: u16) -> u64
-    ensures { λ r. ⌜ (r ≡ x) × (r < 65536) ⌝ }
-{
-    x as u64
-}
-
-fn size(x: u8) -> usize
-    ensures { λ r. ⌜ r ≡ x ⌝ }
-{
-    x as usize
-}
-
-// The word of the store for the position q of the stream v: "the value for position p lies in word p mod n of its part".
-pub fn slot(kept: &[u16; 32], parts: &[u16; 32], v: usize, q: u64) -> usize
-    requires { ⌜ (v < 32) × (0 < getD (now kept) v 0) ⌝ }
-    ensures { λ r. ⌜ r ≡ getD (now (parts .entry)) v 0 + q % getD (now (kept .entry)) v 0 ⌝ }
-{
-    let n = wide(kept[v]);
-    let first = wide(parts[v]);
-    (first + q % n) as usize
-}
-
-// The value that the store has of the stream v for the position q.
-fn held(
-    store: &[u32],
-    types: &[u8; 32],
-    kept: &[u16; 32],
-    parts: &[u16; 32],
-    v: usize,
-    q: u64,
-) -> Value
-    requires { ⌜ (v < 32) × PartIn (now kept) (now parts) (length (now store)) v ⌝ }
-    ensures { λ r. ⌜ r ≡ heldOf (now (types .entry)) (now (kept .entry)) (now (store .entry)) v q ⌝ }
-{
-    let i = slot(kept, parts, v, q);
-    value::reading(types[v], store[i])
-}
-
 // at(v, k) at position j: "v at j+k, or the default where j+k is below 0 or not below N". `word` is the default's.
 fn referred(
     store: &[u32],
-    types: &[u8; 32],
-    kept: &[u16; 32],
-    parts: &[u16; 32],
+    types: &[u8; STREAMS_MOST],
+    kept: &[u16; STREAMS_MOST],
+    parts: &[u16; STREAMS_MOST],
     known: u64,
     j: u64,
     v: usize,
     k: i8,
     word: u32,
 ) -> Value
-    requires { ⌜ (j + 128 < 2 ^ 64) × ((v < 32) × PartIn (now kept) (now parts) (length (now store)) v) ⌝ }
+    requires { ⌜ (j + 128 < 2 ^ 64) × ((v < mostStreams) × PartIn (now kept) (now parts) (length (now store)) v) ⌝ }
     ensures { λ r. ⌜ r ≡ referredOf (now (types .entry)) (now (kept .entry)) (now (store .entry)) known j v k word ⌝ }
 {
     let up = j + up_of(k);
@@ -82,7 +47,7 @@ fn referred(
     if down <= up {
         let q = up - down;
         if q < known {
-            return held(store, types, kept, parts, v, q);
+            return store::read(store, types, kept, parts, v, q);
         }
     }
     value::reading(types[v], word)
@@ -109,7 +74,7 @@ fn behind(kind: u8, start: usize) -> usize
     requires { ⌜ start + ruleOf kind .body < 2 ^ 64 ⌝ }
     ensures { λ r. ⌜ r ≡ start + ruleOf kind .body ⌝ }
 {
-    start + size(node::rule_of(kind).body)
+    start + byte_size(node::rule_of(kind).body)
 }
 
 // The expression at `at`, with `levels` levels left. The node is an enum, and "the checker's and evaluator's decision goes over it". Each arm
@@ -117,27 +82,28 @@ fn behind(kind: u8, start: usize) -> usize
 fn eval(
     bytes: &[u8],
     store: &[u32],
-    types: &[u8; 32],
-    kept: &[u16; 32],
-    parts: &[u16; 32],
+    types: &[u8; STREAMS_MOST],
+    kept: &[u16; STREAMS_MOST],
+    parts: &[u16; STREAMS_MOST],
     known: u64,
     j: u64,
     at: usize,
     levels: u8,
 ) -> Evaluated
     requires { ⌜ (j + 128 < 2 ^ 64) × Readable levels (now types) (now kept) (now parts) (length (now store)) (now bytes) at ⌝ }
-    ensures { λ r. ⌜ Evaluates levels (now (types .entry)) (now (kept .entry)) (now (parts .entry)) (now (store .entry)) (now (bytes .entry)) known j at r ⌝ }
+    ensures { λ r. ⌜ Evaluates levels (now (types .entry)) (now (kept .entry)) (now (parts .entry)) (now (store .entry))
+        (now (bytes .entry)) known j at r ⌝ }
 {
     let kind = bytes[at];
     let start = at + 1;
     match node::node_of(bytes, kind, start) {
         Node::Constant(t, w) => valued(value::reading(t, w), behind(kind, start)),
         Node::Now(v) => {
-            let value = held(store, types, kept, parts, size(v), j);
+            let value = store::read(store, types, kept, parts, byte_size(v), j);
             valued(value, behind(kind, start))
         }
         Node::At(v, k, w) => {
-            let value = referred(store, types, kept, parts, known, j, size(v), k, w);
+            let value = referred(store, types, kept, parts, known, j, byte_size(v), k, w);
             valued(value, behind(kind, start))
         }
         Node::Operator(op) => {
@@ -161,87 +127,82 @@ fn eval(
     }
 }
 
-// Writes the word of the stream v for the position q.
-fn put(store: &mut [u32], kept: &[u16; 32], parts: &[u16; 32], v: usize, q: u64, w: u32)
-    requires { ⌜ (v < 32) × PartIn (now kept) (now parts) (length (now store)) v ⌝ }
-    ensures { λ r. ⌜ now (store .exit) ≡ set (now (store .entry)) (slotOf (now (kept .entry)) v q) w ⌝ }
-{
-    let i = slot(kept, parts, v, q);
-    store[i] = w;
-}
-
 // The value of the stream y at `position`, from the row or from its equation.
 fn fresh(
     bytes: &[u8],
     store: &[u32],
     row: &[u32],
-    types: &[u8; 32],
-    look: &[u16; 32],
-    kept: &[u16; 32],
-    parts: &[u16; 32],
-    starts: &[u16; 32],
-    order: &[u8; 32],
+    types: &[u8; STREAMS_MOST],
+    kept: &[u16; STREAMS_MOST],
+    parts: &[u16; STREAMS_MOST],
+    starts: &[u16; STREAMS_MOST],
     inputs: usize,
-    streams: usize,
     known: u64,
     position: u64,
     y: usize,
 ) -> Value
-    requires { ⌜ Ready (now bytes) (now types) (now look) (now kept) (now parts) (now starts) (now order) inputs streams (length (now store)) × ((position + 128 < 2 ^ 64) × ((y < streams) × (y < inputs → y < length (now row)))) ⌝ }
-    ensures { λ r. ⌜ Fresh (now (bytes .entry)) (now (types .entry)) (now (look .entry)) (now (kept .entry)) (now (parts .entry)) (now (starts .entry)) (now (order .entry)) inputs streams (now (row .entry)) (now (store .entry)) known position y r ⌝ }
+    requires { ⌜ StreamReady (now bytes) (now types) (now kept) (now parts) (now starts) inputs (length (now store)) y
+        × (position + 128 < 2 ^ 64) × (y < inputs → y < length (now row)) ⌝ }
+    ensures { λ r. ⌜ Fresh (now (bytes .entry)) (now (types .entry)) (now (kept .entry)) (now (parts .entry)) (now (starts .entry)) inputs
+        (now (row .entry)) (now (store .entry)) known position y r ⌝ }
 {
     if y < inputs {
         value::reading(types[y], row[y])
     } else {
-        let place = wide(starts[y]) as usize;
-        let e = eval(bytes, store, types, kept, parts, known, position, place, 16);
+        let place = wire::short_wide(starts[y]) as usize;
+        let e = eval(
+            bytes,
+            store,
+            types,
+            kept,
+            parts,
+            known,
+            position,
+            place,
+            limits::LEVELS_MOST,
+        );
         e.value
     }
 }
 
 // The stream y's step of turn t: "writes exactly the values, inputs included, whose position is that turn less their look-ahead and lies in
 // the trace".
-fn settle(
+fn step(
     bytes: &[u8],
     store: &mut [u32],
     row: &[u32],
-    types: &[u8; 32],
-    look: &[u16; 32],
-    kept: &[u16; 32],
-    parts: &[u16; 32],
-    starts: &[u16; 32],
-    order: &[u8; 32],
+    types: &[u8; STREAMS_MOST],
+    look: &[u16; STREAMS_MOST],
+    kept: &[u16; STREAMS_MOST],
+    parts: &[u16; STREAMS_MOST],
+    starts: &[u16; STREAMS_MOST],
     inputs: usize,
-    streams: usize,
     known: u64,
     t: u64,
     y: usize,
 )
-    requires { ⌜ Ready (now bytes) (now types) (now look) (now kept) (now parts) (now starts) (now order) inputs streams (length (now store)) × ((t + 128 < 2 ^ 64) × ((known + 65536 < 2 ^ 64) × ((y < streams) × (t < known → inputs ≤ length (now row))))) ⌝ }
-    ensures { λ r. ⌜ Settles (now (bytes .entry)) (now (types .entry)) (now (look .entry)) (now (kept .entry)) (now (parts .entry)) (now (starts .entry)) (now (order .entry)) inputs streams (now (row .entry)) (now (store .entry)) known t y (now (store .exit)) ⌝ }
+    requires { ⌜ StreamReady (now bytes) (now types) (now kept) (now parts) (now starts) inputs (length (now store)) y
+        × (t + 128 < 2 ^ 64) × (known + 65536 < 2 ^ 64) × (t < known + getD (now look) y 0 → y < inputs → y < length (now row)) ⌝ }
+    ensures { λ _. ⌜ Stepped (now (bytes .entry)) (now (types .entry)) (now (look .entry)) (now (kept .entry)) (now (parts .entry))
+        (now (starts .entry)) inputs (now (row .entry)) (now (store .entry)) known t y (now (store .exit)) ⌝ }
 {
-    let ahead = wide(look[y]);
-    if ahead <= t {
-        if t < known + ahead {
-            let position = t - ahead;
-            let v = fresh(
-                bytes,
-                store,
-                row,
-                types,
-                look,
-                kept,
-                parts,
-                starts,
-                order,
-                inputs,
-                streams,
-                known,
-                position,
-                y,
-            );
-            put(store, kept, parts, y, position, value::image(v));
-        }
+    let ahead = wire::short_wide(look[y]);
+    if ahead <= t && t < known + ahead {
+        let position = t - ahead;
+        let v = fresh(
+            bytes,
+            store,
+            row,
+            types,
+            kept,
+            parts,
+            starts,
+            inputs,
+            known,
+            position,
+            y,
+        );
+        store::write(store, types, kept, parts, y, position, v);
     }
 }
 
@@ -250,24 +211,25 @@ pub fn turn(
     bytes: &[u8],
     store: &mut [u32],
     row: &[u32],
-    types: &[u8; 32],
-    look: &[u16; 32],
-    kept: &[u16; 32],
-    parts: &[u16; 32],
-    starts: &[u16; 32],
-    order: &[u8; 32],
+    types: &[u8; STREAMS_MOST],
+    look: &[u16; STREAMS_MOST],
+    kept: &[u16; STREAMS_MOST],
+    parts: &[u16; STREAMS_MOST],
+    starts: &[u16; STREAMS_MOST],
+    order: &[u8; STREAMS_MOST],
     inputs: usize,
     streams: usize,
     known: u64,
     t: u64,
 )
-    requires { ⌜ Ready (now bytes) (now types) (now look) (now kept) (now parts) (now starts) (now order) inputs streams (length (now store)) × ((t + 128 < 2 ^ 64) × ((known + 65536 < 2 ^ 64) × (t < known → inputs ≤ length (now row)))) ⌝ }
-    ensures { λ r. ⌜ Turns (now (bytes .entry)) (now (types .entry)) (now (look .entry)) (now (kept .entry)) (now (parts .entry)) (now (starts .entry)) (now (order .entry)) inputs streams (now (row .entry)) (now (store .entry)) known t (now (store .exit)) ⌝ }
+    requires { ⌜ Turnable (now bytes) (now types) (now look) (now kept) (now parts) (now starts) (now order) inputs streams (length (now store))
+        × ((t + 128 < 2 ^ 64) × ((known + 65536 < 2 ^ 64) × (t < known → inputs ≤ length (now row)))) ⌝ }
+    ensures { λ _. ⌜ Turns (now (bytes .entry)) (now (types .entry)) (now (look .entry)) (now (kept .entry)) (now (parts .entry))
+        (now (starts .entry)) (now (order .entry)) inputs streams (now (row .entry)) (now (store .entry)) known t (now (store .exit)) ⌝ }
 {
     let mut i: usize = 0;
     while i < streams {
-        let y = size(order[i]);
-        settle(
+        step(
             bytes,
             store,
             row,
@@ -276,12 +238,10 @@ pub fn turn(
             kept,
             parts,
             starts,
-            order,
             inputs,
-            streams,
             known,
             t,
-            y,
+            byte_size(order[i]),
         );
         i += 1;
     }

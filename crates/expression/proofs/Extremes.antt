@@ -11,6 +11,8 @@ use lib.Dec.{ltb, eqb}
 use lib.IntN.{ℤ, pos}
 use lib.ListN.{length, getD, set, length-set}
 use lib.Seq.{getD-set-same, getD-set-other, set-out}
+use Rattle.basis.specs.Notes.{rising, falling}
+use Rattle.limits.specs.Limits.{riseOfZero, fallOfZero}
 use Rattle.basis.specs.Edges.{Edge, Has, here, later}
 use Rattle.basis.specs.Parts.{up, down}
 use Rattle.basis.proofs.Edges.{has-before, has-after, has-either}
@@ -18,7 +20,7 @@ use Rattle.basis.proofs.Tests.{pick-case, lt-or-ge}
 use Rattle.node.specs.declared.Node.{Node}
 use Rattle.node.specs.declared.Node.the-variants.{Constant, Now, At, Operator}
 use Rattle.expression.specs.Syntax.{Expr, leaf, unary, binary, ternary}
-use Rattle.expression.specs.References.{edge, nodeReferences, references, rising, falling, raised, nodeNoted, noted, Refers, Extremes}
+use Rattle.expression.specs.References.{edge, nodeReferences, references, raised, nodeNoted, noted, Refers, Extremes}
 use Rattle.expression.proofs.Measures.{rising-is, falling-is}
 use Rattle.expression.proofs.References.{no-edge}
 
@@ -95,15 +97,15 @@ module _ {y streams : ℕ} (e : Expr) (r : Refers y streams (references y e)) (a
   falls : Notes falling y (references y e) b (noted falling e b)
   falls = noted-notes falling y e b
 
-  between : (k : ℤ) → Has y v k (references y e) → (129 + up k ≤ getD (noted rising e a) v 0 + down k) × (128 + down k ≤ getD (noted falling e b) v 0 + up k)
+  between : (k : ℤ) → Has y v k (references y e) → (riseOfZero + up k ≤ getD (noted rising e a) v 0 + down k) × (fallOfZero + down k ≤ getD (noted falling e b) v 0 + up k)
   between k h =
       let g = r y v k h .ranged in
       (omega (arith, rises .covers v k la h, rising-is g), omega (arith, falls .covers v k lb h, falling-is g))
 
-  largest : 1 ≤ getD (noted rising e a) v 0 → (k : ℤ) × Has y v k (references y e) × (getD (noted rising e a) v 0 + down k ≡ 129 + up k)
+  largest : 1 ≤ getD (noted rising e a) v 0 → (k : ℤ) × Has y v k (references y e) × (getD (noted rising e a) v 0 + down k ≡ riseOfZero + up k)
   largest h = ⊎-elim (λ q. absurd (omega arith)) (λ q. (q .0, q .1, omega (arith, q .2, rising-is (r y v (q .0) (q .1) .ranged)))) (rises .comes v)
 
-  smallest : 1 ≤ getD (noted falling e b) v 0 → (k : ℤ) × Has y v k (references y e) × (getD (noted falling e b) v 0 + up k ≡ 128 + down k)
+  smallest : 1 ≤ getD (noted falling e b) v 0 → (k : ℤ) × Has y v k (references y e) × (getD (noted falling e b) v 0 + up k ≡ fallOfZero + down k)
   smallest h = ⊎-elim (λ q. absurd (omega arith)) (λ q. (q .0, q .1, omega (arith, q .2, falling-is (r y v (q .0) (q .1) .ranged)))) (falls .comes v)
 
   pub extremes : Extremes (references y e) y v (getD (noted rising e a) v 0) (getD (noted falling e b) v 0)

@@ -1,4 +1,4 @@
--- What holds of the head at a place: a fault's number is 2 to 6; a node has no fault, ends in the table and behind its start, and refers
+-- What holds of the head at a place: a fault's number is a node's; a node has no fault, ends in the table and behind its start, and refers
 -- to a stream of the table by an offset in range. Assumes nothing.
 use mathlib.Core.Path.{_≡_, refl, subst}
 use mathlib.Core.Bool.{cond}
@@ -10,6 +10,8 @@ use borrow.Author.Tests.{eqb-true, eqb-false, leb-true, ltb-true, ltb-false}
 use lib.Dec.{eqb, leb, ltb}
 use lib.IntN.{ℤ, pos, negsuc}
 use lib.ListN.{length, getD, take, length-take}
+use Rattle.limits.specs.Limits.{mostStreams}
+use Rattle.limits.specs.Refusals.{missing, wrongField, wrongType, tooDeep}
 use Rattle.basis.proofs.Tests.{pick-case}
 use Rattle.node.specs.declared.Node.{Node}
 use Rattle.node.specs.declared.Node.the-variants.{Constant, Now, At, Operator}
@@ -24,39 +26,39 @@ use Rattle.expression.specs.References.{NodeRefers, Ranged}
 
 -- ---- the faults of a node
 
--- no fault, or a fault of the number 4 or 5
-abbrev FourOrFive : ℕ → Type 0
-FourOrFive n = (n ≡ 0) ⊎ ((4 ≤ n) × (n ≤ 5))
+-- no fault, "a field out of its rule" or "node not of the wanted type"
+abbrev FieldOrType : ℕ → Type 0
+FieldOrType n = (n ≡ 0) ⊎ ((wrongField ≤ n) × (n ≤ wrongType))
 
-type-fault : (t w : ℕ) → FourOrFive (typeFault t w)
+type-fault : (t w : ℕ) → FieldOrType (typeFault t w)
 unfolding typeFault
-type-fault t w = pick-case FourOrFive (eqb t w) 0 5 (λ _. inl refl) (λ _. inr (omega arith))
+type-fault t w = pick-case FieldOrType (eqb t w) 0 wrongType (λ _. inl refl) (λ _. inr (omega arith))
 
-word-fault : (t x : ℕ) → FourOrFive (wordFault t x)
+word-fault : (t x : ℕ) → FieldOrType (wordFault t x)
 unfolding wordFault
 word-fault t x =
-    pick-case FourOrFive (eqb t 0) _ 0 (λ _. pick-case FourOrFive (ltb 1 x) 4 0 (λ _. inr (omega arith)) (λ _. inl refl)) (λ _. inl refl)
+    pick-case FieldOrType (eqb t 0) _ 0 (λ _. pick-case FieldOrType (ltb 1 x) wrongField 0 (λ _. inr (omega arith)) (λ _. inl refl)) (λ _. inl refl)
 
-zero-fault : (k : ℤ) → FourOrFive (zeroFault k)
+zero-fault : (k : ℤ) → FieldOrType (zeroFault k)
 unfolding zeroFault
 zero-fault (pos zero) = inr (omega arith)
 zero-fault (pos (suc n)) = inl refl
 zero-fault (negsuc n) = inl refl
 
-first-fault : (a b : ℕ) → FourOrFive a → FourOrFive b → FourOrFive (first a b)
+first-fault : (a b : ℕ) → FieldOrType a → FieldOrType b → FieldOrType (first a b)
 unfolding first
-first-fault a b f g = pick-case FourOrFive (eqb a 0) b a (λ _. g) (λ _. f)
+first-fault a b f g = pick-case FieldOrType (eqb a 0) b a (λ _. g) (λ _. f)
 
-fault-number : (ts : List ℕ) (w : ℕ) (n : Node) → FourOrFive (faultOf ts w n)
+fault-number : (ts : List ℕ) (w : ℕ) (n : Node) → FieldOrType (faultOf ts w n)
 unfolding faultOf
 fault-number ts w (Constant t x) = first-fault _ _ (word-fault t x) (type-fault t w)
-fault-number ts w (Now v) = pick-case FourOrFive (ltb v (length ts)) _ 4 (λ _. type-fault _ w) (λ _. inr (omega arith))
+fault-number ts w (Now v) = pick-case FieldOrType (ltb v (length ts)) _ wrongField (λ _. type-fault _ w) (λ _. inr (omega arith))
 fault-number ts w (At v k d) =
-    pick-case FourOrFive (ltb v (length ts)) _ 4 (λ _. first-fault _ _ (zero-fault k) (first-fault _ _ (word-fault _ d) (type-fault _ w))) (λ _. inr (omega arith))
+    pick-case FieldOrType (ltb v (length ts)) _ wrongField (λ _. first-fault _ _ (zero-fault k) (first-fault _ _ (word-fault _ d) (type-fault _ w))) (λ _. inr (omega arith))
 fault-number ts w (Operator k) = type-fault _ w
 
-below-of : (v n x : ℕ) → cond (ltb v n) x 4 ≡ 0 → (v < n) × (x ≡ 0)
-below-of v n x = pick-case (λ (y : ℕ). y ≡ 0 → (v < n) × (x ≡ 0)) (ltb v n) x 4 (λ p q. (ltb-true v n p, q)) (λ _ q. absurd (omega arith))
+below-of : (v n x : ℕ) → cond (ltb v n) x wrongField ≡ 0 → (v < n) × (x ≡ 0)
+below-of v n x = pick-case (λ (y : ℕ). y ≡ 0 → (v < n) × (x ≡ 0)) (ltb v n) x wrongField (λ p q. (ltb-true v n p, q)) (λ _ q. absurd (omega arith))
 
 not-zero : (k : ℤ) (b : ℕ) → first (zeroFault k) b ≡ 0 → k ≡ pos 0 → ⊥
 unfolding first zeroFault
@@ -93,8 +95,12 @@ fault-free-refers ts w (Operator k) q r = tt
 
 -- ---- the head at a place
 
+-- the numbers that refuse a node, from "kind byte or body missing" to "node at level 17"
+abbrev pub NodeFault : ℕ → Type 0
+NodeFault n = (missing ≤ n) × (n ≤ tooDeep)
+
 abbrev NodeSound : List ℕ → ℕ → NodeRead → Type 0
-NodeSound s at (Fault why) = (2 ≤ why) × (why ≤ 6)
+NodeSound s at (Fault why) = NodeFault why
 NodeSound s at (Got n m) = OffsetRanged n × (at < m) × (m ≤ length s)
 
 node-sound : (s : List ℕ) (at : ℕ) → NodeSound s at (nodeAt s at)
@@ -113,7 +119,7 @@ pub record Fine (ts s : List ℕ) (w at : ℕ) (n : Node) (m : ℕ) : Type 0 whe
   pub within : m ≤ length s
 
 abbrev pub HeadSound : List ℕ → List ℕ → ℕ → ℕ → Head → Type 0
-HeadSound ts s w at (head.Refused why) = (2 ≤ why) × (why ≤ 6)
+HeadSound ts s w at (head.Refused why) = NodeFault why
 HeadSound ts s w at (head.Leaf n m) = Fine ts s w at n m
 HeadSound ts s w at (head.Operator k m) = Fine ts s w at (Operator k) m
 
@@ -124,14 +130,14 @@ head-of ts s w at (Now v) m f = f
 head-of ts s w at (At v k d) m f = f
 head-of ts s w at (Operator k) m f = f
 
-own-number : {x : ℕ} → (x ≡ 0 → ⊥) → FourOrFive x → (2 ≤ x) × (x ≤ 6)
+own-number : {x : ℕ} → (x ≡ 0 → ⊥) → FieldOrType x → NodeFault x
 own-number f (inl e) = absurd (f e)
 own-number f (inr g) = omega arith
 
-any-number : (l : ℕ) (ts : List ℕ) (w : ℕ) (n : Node) → (faultAt l ts w n ≡ 0 → ⊥) → (2 ≤ faultAt l ts w n) × (faultAt l ts w n ≤ 6)
+any-number : (l : ℕ) (ts : List ℕ) (w : ℕ) (n : Node) → (faultAt l ts w n ≡ 0 → ⊥) → NodeFault (faultAt l ts w n)
 unfolding faultAt
 any-number l ts w n =
-    pick-case (λ (x : ℕ). (x ≡ 0 → ⊥) → (2 ≤ x) × (x ≤ 6)) (eqb l 0) 6 (faultOf ts w n) (λ p f. omega arith) (λ p f. own-number f (fault-number ts w n))
+    pick-case (λ (x : ℕ). (x ≡ 0 → ⊥) → NodeFault x) (eqb l 0) tooDeep (faultOf ts w n) (λ p f. omega arith) (λ p f. own-number f (fault-number ts w n))
 
 head-by : (l : ℕ) (ts s : List ℕ) (w at : ℕ) (r : NodeRead) → NodeSound s at r → HeadSound ts s w at (headBy l ts w r)
 unfolding headBy
@@ -153,7 +159,7 @@ more-streams (At v k d) h r = (omega arith, r .1, r .2)
 more-streams (Operator k) h r = tt
 
 -- a leaf refers to one of 32 streams
-pub leaf-refers : (l streams : ℕ) (types s : List ℕ) (w at : ℕ) {n : Node} {next : ℕ} → streams ≤ 32 → headAt l (take streams types) s w at ≡ head.Leaf n next → NodeRefers 32 n
+pub leaf-refers : (l streams : ℕ) (types s : List ℕ) (w at : ℕ) {n : Node} {next : ℕ} → streams ≤ mostStreams → headAt l (take streams types) s w at ≡ head.Leaf n next → NodeRefers mostStreams n
 leaf-refers l streams types s w at {n} h e =
     let f = subst (HeadSound (take streams types) s w at) e (head-sound l (take streams types) s w at) in
     more-streams n (omega (arith, length-take streams types)) (f .refers)

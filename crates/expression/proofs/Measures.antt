@@ -8,9 +8,11 @@ use lib.IntN.{ℤ, pos, negsuc, _+ℤ_, _-ℤ_, negℤ, natAbs}
 use lib.Signed.{nonNeg}
 use mir.Syntax.{w8, w16}
 use mir.Val.{Fits, SFits}
+use Rattle.basis.specs.Notes.{rising, falling}
+use Rattle.limits.specs.Limits.{riseOfZero, fallOfZero}
 use Rattle.basis.specs.Parts.{up, down}
 use Rattle.basis.proofs.Parts.{sum-parts, mag-parts}
-use Rattle.expression.specs.References.{Ranged, rising, falling}
+use Rattle.expression.specs.References.{Ranged}
 
 -- a number of 16 bits that is a - b for naturals, b the smaller
 pub record Counted (z : ℤ) (n : ℕ) : Type 0 where
@@ -32,22 +34,22 @@ module _ (k : ℤ) (f : SFits w8 k) where
   pub wider : SFits w16 k
   wider = record { sfits = omega (arith, f .sfits) }
 
-  pub rising-counted : Counted (k +ℤ pos 129) (rising k)
+  pub rising-counted : Counted (k +ℤ pos riseOfZero) (rising k)
   unfolding rising
   rising-counted =
       let m = mag-parts k 128 (f .sfits) in
-      counted (k +ℤ pos 129) (129 + up k) (down k) (omega (arith, sum-parts k (pos 129))) (omega arith) (omega arith)
+      counted (k +ℤ pos riseOfZero) (riseOfZero + up k) (down k) (omega (arith, sum-parts k (pos riseOfZero))) (omega arith) (omega arith)
 
-  pub falling-counted : Counted (pos 128 -ℤ k) (falling k)
+  pub falling-counted : Counted (pos fallOfZero -ℤ k) (falling k)
   unfolding falling
   falling-counted =
       let m = mag-parts k 128 (f .sfits) in
-      counted (pos 128 -ℤ k) (128 + down k) (up k) (omega (arith, sum-parts (pos 128) (negℤ k), negated k)) (omega arith) (omega arith)
+      counted (pos fallOfZero -ℤ k) (fallOfZero + down k) (up k) (omega (arith, sum-parts (pos fallOfZero) (negℤ k), negated k)) (omega arith) (omega arith)
 
-pub rising-is : {k : ℤ} → Ranged k → rising k + down k ≡ 129 + up k
+pub rising-is : {k : ℤ} → Ranged k → rising k + down k ≡ riseOfZero + up k
 unfolding rising
 rising-is r = omega arith
 
-pub falling-is : {k : ℤ} → Ranged k → falling k + up k ≡ 128 + down k
+pub falling-is : {k : ℤ} → Ranged k → falling k + up k ≡ fallOfZero + down k
 unfolding falling
 falling-is r = omega arith

@@ -6,9 +6,11 @@ use Prim.Native.Nat.{ℕ, _≤_, _<_}
 use borrow.Author.Tests.{lt-ltb, le-ltb}
 use lib.IntN.{ℤ, pos}
 use lib.ListN.{getD, set}
+use Rattle.basis.specs.Notes.{rising, falling}
+use Rattle.limits.specs.Limits.{mostStreams, riseOfZero, fallOfZero}
 use Rattle.node.specs.declared.Node.{Node}
 use Rattle.node.specs.declared.Node.the-variants.{Constant, Now, At, Operator}
-use Rattle.expression.specs.References.{rising, falling, raised, nodeNoted, NodeRefers}
+use Rattle.expression.specs.References.{raised, nodeNoted, NodeRefers}
 
 pub raised-less : (a : List ℕ) (v x : ℕ) → getD a v 0 < x → set a v x ≡ raised v x a
 unfolding raised
@@ -35,17 +37,17 @@ module _ (m : ℤ → ℕ) (a : List ℕ) {node : Node} where
   unfolding nodeNoted
   at-noted e g h = rw (e, ← g) h
 
-pub rising-now : 129 ≡ rising (pos 0)
+pub rising-now : riseOfZero ≡ rising (pos 0)
 unfolding rising
 rising-now = refl
 
-pub falling-now : 128 ≡ falling (pos 0)
+pub falling-now : fallOfZero ≡ falling (pos 0)
 unfolding falling
 falling-now = refl
 
-module _ {node : Node} {v : ℕ} (h : NodeRefers 32 node) where
-  pub now-target : node ≡ Now v → v < 32
+module _ {node : Node} {v : ℕ} (h : NodeRefers mostStreams node) where
+  pub now-target : node ≡ Now v → v < mostStreams
   now-target e = rw e at h
 
-  pub at-target : {k : ℤ} {d : ℕ} → node ≡ At v k d → v < 32
+  pub at-target : {k : ℤ} {d : ℕ} → node ≡ At v k d → v < mostStreams
   at-target e = (rw e at h) .0

@@ -4,6 +4,7 @@ use mathlib.Core.Path.{_≡_, refl, sym, ap, _∙_}
 use mathlib.Core.List.{List}
 use Prim.Native.Nat.{ℕ, _-_}
 use native.Mathlib.Omega.{arith}
+use Rattle.basis.specs.Notes.{rising, falling}
 use Rattle.node.specs.declared.Rule.{Rule}
 use Rattle.node.specs.declared.Node.{Node}
 use Rattle.node.specs.Head as head
@@ -13,7 +14,7 @@ use Rattle.expression.specs.declared.Scanned.{Scanned}
 use Rattle.expression.specs.declared.Scanned.the-variants.{Ends, Refused}
 use Rattle.expression.specs.Syntax.{Expr}
 use Rattle.expression.specs.Grammar.{Parsed, good, bad, parse, scannedOf}
-use Rattle.expression.specs.References.{rising, falling, nodeNoted, noted, Scans}
+use Rattle.expression.specs.References.{nodeNoted, noted, Scans}
 use Rattle.expression.proofs.Operands.{parse-refused, parse-leaf, first-bad, one-operand, second-bad, two-operands, third-bad, three-operands}
 
 good-not-bad : {X : Type 0} {e : Expr} {n why place : ℕ} → bad why place ≡ good e n → X

@@ -1,5 +1,5 @@
 -- What holds of each parsed expression and of each refusal: the expression is of the wanted type, refers to streams of the table and ends
--- in it behind its start; a refusal's number is 2 to 6, and its place lies between the start and the end. Assumes nothing.
+-- in it behind its start; a refusal's number is a node's, and its place lies between the start and the end. Assumes nothing.
 use mathlib.Core.Path.{_≡_, subst}
 use mathlib.Core.Bool.{Bool, true, false}
 use mathlib.Core.List.{List}
@@ -7,6 +7,7 @@ use Prim.Native.Nat.{ℕ, zero, suc, _≤_, _<_}
 use native.Mathlib.Omega.{arith}
 use lib.Dec.{eqb}
 use lib.ListN.{length}
+use Rattle.limits.specs.Refusals.{tooDeep}
 use Rattle.node.specs.declared.Node.the-variants.{Operator}
 use Rattle.node.specs.Head.{Head}
 use Rattle.node.specs.Head as head
@@ -17,7 +18,7 @@ use Rattle.basis.specs.Choices.{orElse}
 use Rattle.expression.specs.Grammar.{Parsed, good, bad, andThen, operands, step, parse}
 use Rattle.expression.specs.References.{references, Refers}
 use Rattle.expression.proofs.References.{node-refers, both-refer}
-use Rattle.expression.proofs.Heads.{Fine, HeadSound, head-sound}
+use Rattle.expression.proofs.Heads.{NodeFault, Fine, HeadSound, head-sound}
 
 -- an expression of the type w that starts at the place `at` and ends before n
 pub record Right (ts s : List ℕ) (w at : ℕ) (e : Expr) (n : ℕ) : Type 0 where
@@ -28,7 +29,7 @@ pub record Right (ts s : List ℕ) (w at : ℕ) (e : Expr) (n : ℕ) : Type 0 wh
 
 -- a refusal of an expression that starts at the place `at`
 pub record Blamed (s : List ℕ) (at why place : ℕ) : Type 0 where
-  pub number : (2 ≤ why) × (why ≤ 6)
+  pub number : NodeFault why
   pub behind : at ≤ place
   pub within : at ≤ length s → place ≤ length s
 
@@ -75,12 +76,12 @@ module _ (ts s : List ℕ) where
     step-sound w at (head.Leaf n m) g = record { fit = g .faultless; refers = λ y. node-refers y (length ts) n (g .refers); behind = g .behind; within = g .within }
     step-sound w at (head.Operator k m) g = ops-sound w k at m g
 
-  no-level : (w at : ℕ) → Sound ts s w at (bad 6 at)
+  no-level : (w at : ℕ) → Sound ts s w at (bad tooDeep at)
   no-level w at = record { number = omega arith; behind = omega arith; within = λ l. l }
 
   pub parse-sound : (l w at : ℕ) → Sound ts s w at (parse l ts s w at)
   unfolding parse
-  parse-sound zero w at = step-sound (λ v n. bad 6 n) no-level w at (headAt zero ts s w at) (head-sound zero ts s w at)
+  parse-sound zero w at = step-sound (λ v n. bad tooDeep n) no-level w at (headAt zero ts s w at) (head-sound zero ts s w at)
   parse-sound (suc l) w at = step-sound (λ v n. parse l ts s v n) (λ v n. parse-sound l v n) w at (headAt (suc l) ts s w at) (head-sound (suc l) ts s w at)
 
   pub good-right : (l w at : ℕ) {e : Expr} {n : ℕ} → parse l ts s w at ≡ good e n → Right ts s w at e n

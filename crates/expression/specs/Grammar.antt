@@ -3,6 +3,7 @@
 use Prim.Native.Nat.{ℕ, zero, suc}
 use mathlib.Core.List.{List}
 use lib.Dec.{eqb}
+use Rattle.limits.specs.Refusals.{tooDeep}
 use Rattle.basis.specs.Choices.{orElse}
 use Rattle.node.specs.declared.Rule.{Rule}
 use Rattle.node.specs.Head.{Head}
@@ -41,7 +42,7 @@ step p w at (head.Operator k next) = operands p w k (ruleOf k) next
 -- the expression of the type w at the place `at` of the table s over streams of the types ts, with `levels` levels left: "nodes nest at
 -- most 16 levels deep". At no level left `headAt` refuses each node.
 unfoldable pub parse : ℕ → List ℕ → List ℕ → ℕ → ℕ → Parsed
-parse zero ts s w at = step (λ v n. bad 6 n) w at (headAt zero ts s w at)
+parse zero ts s w at = step (λ v n. bad tooDeep n) w at (headAt zero ts s w at)
 parse (suc levels) ts s w at = step (λ v n. parse levels ts s v n) w at (headAt (suc levels) ts s w at)
 
 -- what a scan answers of it

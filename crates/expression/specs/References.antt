@@ -1,12 +1,14 @@
 -- The references of an expression as edges, and the largest and the smallest weight to each stream that the scan notes (document 01,
 -- "What the check announces"). Assumes nothing.
-use Prim.Native.Nat.{ℕ, _+_, _-_, _≤_, _<_}
+use Prim.Native.Nat.{ℕ, _+_, _≤_, _<_}
 use mathlib.Core.Bool.{cond}
 use mathlib.Core.List.{List, [], _∷_, _++_}
 use mathlib.Core.Path.{_≡_}
 use lib.Dec.{ltb}
 use lib.IntN.{ℤ, pos}
 use lib.ListN.{getD, set}
+use Rattle.basis.specs.Notes.{rising, falling}
+use Rattle.limits.specs.Limits.{mostBack, mostAhead, riseOfZero, fallOfZero}
 use Rattle.basis.specs.Parts.{up, down}
 use Rattle.basis.specs.Edges.{Edge, Has}
 use Rattle.node.specs.declared.Node.{Node}
@@ -34,8 +36,8 @@ references y (ternary k a b c) = references y a ++ references y b ++ references 
 
 -- "k from -128 to 127"
 pub record Ranged (k : ℤ) : Type 0 where
-  pub ahead : up k ≤ 127
-  pub back : down k ≤ 128
+  pub ahead : up k ≤ mostAhead
+  pub back : down k ≤ mostBack
 
 -- a node that refers to a stream refers to one below `streams`, and an at's offset is in range "and not 0"
 abbrev pub NodeRefers : ℕ → Node → Type 0
@@ -53,13 +55,6 @@ pub record Leads (y streams i v : ℕ) (k : ℤ) : Type 0 where
 abbrev pub Refers : ℕ → ℕ → List Edge → Type 0
 Refers y streams es = (i v : ℕ) (k : ℤ) → Has i v k es → Leads y streams i v k
 
--- such a weight as a number from 1 to 256, in rising and in falling order; 0 is left for "no reference"
-unfoldable pub rising : ℤ → ℕ
-rising k = (129 + up k) - down k
-
-unfoldable pub falling : ℤ → ℕ
-falling k = (128 + down k) - up k
-
 -- the entry of v raised to x, if it was less
 unfoldable pub raised : ℕ → ℕ → List ℕ → List ℕ
 raised v x a = cond (ltb (getD a v 0) x) (set a v x) a
@@ -70,6 +65,10 @@ nodeNoted m (Constant t x) a = a
 nodeNoted m (Now v) a = raised v (m (pos 0)) a
 nodeNoted m (At v k d) a = raised v (m k) a
 nodeNoted m (Operator k) a = a
+
+-- the note of a node in two arrays, one in rising and one in falling order
+abbrev pub NodeNotes : Node → List ℕ → List ℕ → List ℕ → List ℕ → Type 0
+NodeNotes node rise fall rise′ fall′ = (rise′ ≡ nodeNoted rising node rise) × (fall′ ≡ nodeNoted falling node fall)
 
 -- what is noted of an expression: for each reference to v of weight k the entry of v is raised to m k
 unfoldable pub noted : (ℤ → ℕ) → Expr → List ℕ → List ℕ
@@ -85,11 +84,11 @@ pub record Scans (p : Parsed) (rise fall rise′ fall′ : List ℕ) (r : Scanne
   pub rises : (e : Expr) (n : ℕ) → p ≡ good e n → rise′ ≡ noted rising e rise
   pub falls : (e : Expr) (n : ℕ) → p ≡ good e n → fall′ ≡ noted falling e fall
 
--- rise and fall are the notes of the edges from y to v in a list: both 0 where there is none, else the largest weight is rise - 129 and
--- the smallest 128 - fall
+-- rise and fall are the notes of the edges from y to v in a list: both 0 where there is none, else the largest weight is rise - `riseOfZero`
+-- and the smallest `fallOfZero` - fall
 pub record Extremes (es : List Edge) (y v rise fall : ℕ) : Type 0 where
   pub none : rise ≡ 0 → (k : ℤ) → Has y v k es → ⊥
   pub together : (1 ≤ rise → 1 ≤ fall) × (1 ≤ fall → 1 ≤ rise)
-  pub between : (k : ℤ) → Has y v k es → (129 + up k ≤ rise + down k) × (128 + down k ≤ fall + up k)
-  pub largest : 1 ≤ rise → (k : ℤ) × Has y v k es × (rise + down k ≡ 129 + up k)
-  pub smallest : 1 ≤ fall → (k : ℤ) × Has y v k es × (fall + up k ≡ 128 + down k)
+  pub between : (k : ℤ) → Has y v k es → (riseOfZero + up k ≤ rise + down k) × (fallOfZero + down k ≤ fall + up k)
+  pub largest : 1 ≤ rise → (k : ℤ) × Has y v k es × (rise + down k ≡ riseOfZero + up k)
+  pub smallest : 1 ≤ fall → (k : ℤ) × Has y v k es × (fall + up k ≡ fallOfZero + down k)

@@ -1,10 +1,14 @@
 // The scan of an expression: the place behind it or its first fault, and its references noted by the way.
 // `streams` is the number of the table's streams, whose types are the first entries of `types`.
 ghost use mathlib.Core.Path.{_≡_};
-ghost use Prim.Native.Nat.{_≤_, _<_};
-ghost use lib.ListN.{length, take};
+ghost use Prim.Native.Nat.{_<_};
+ghost use lib.ListN.{take};
+ghost use Rattle.basis.specs.Notes.{rising, falling};
+ghost use Rattle.limits.specs.Limits.{mostStreams};
+ghost use Rattle.node.specs.Node.{Types};
 ghost use Rattle.expression.specs.Grammar.{parse};
-ghost use Rattle.expression.specs.References.{rising, falling, raised, nodeNoted, NodeRefers, Scans};
+ghost use Rattle.expression.specs.References.{raised, NodeRefers, NodeNotes, Scans};
+use limits::STREAMS_MOST;
 use node::Node;
 use node::NodeRead;
 
@@ -14,23 +18,28 @@ pub enum Scanned {
     Refused(u8, usize),
 }
 
-// An offset from -128 to 127 as a number from 1 to 256.
+// The notes of the weight 0, to reckon with.
+const RISE_OF_ZERO: i16 = limits::RISE_OF_ZERO as i16;
+
+const FALL_OF_ZERO: i16 = limits::FALL_OF_ZERO as i16;
+
+// The note of an offset, a number from 1 on, in rising order.
 fn rising_of(k: i8) -> u16
     ensures { λ r. ⌜ r ≡ rising k ⌝ }
 {
-    (k as i16 + 129) as u16
+    (k as i16 + RISE_OF_ZERO) as u16
 }
 
 // The same in falling order.
 fn falling_of(k: i8) -> u16
     ensures { λ r. ⌜ r ≡ falling k ⌝ }
 {
-    (128 - k as i16) as u16
+    (FALL_OF_ZERO - k as i16) as u16
 }
 
 // Raises the entry of `v` to `x`, if it is less.
-fn raise(notes: &mut [u16; 32], v: usize, x: u16)
-    requires { ⌜ v < 32 ⌝ }
+fn raise(notes: &mut [u16; STREAMS_MOST], v: usize, x: u16)
+    requires { ⌜ v < mostStreams ⌝ }
     ensures { λ _. ⌜ now (notes .exit) ≡ raised v x (now (notes .entry)) ⌝ }
 {
     if notes[v] < x {
@@ -39,16 +48,16 @@ fn raise(notes: &mut [u16; 32], v: usize, x: u16)
 }
 
 // Notes the reference of a node, if it has one.
-fn note(rise: &mut [u16; 32], fall: &mut [u16; 32], node: Node)
-    requires { ⌜ NodeRefers 32 node ⌝ }
-    ensures { λ _. ⌜ (now (rise .exit) ≡ nodeNoted rising node (now (rise .entry))) × (now (fall .exit) ≡ nodeNoted falling node (now (fall .entry))) ⌝ }
+fn note(rise: &mut [u16; STREAMS_MOST], fall: &mut [u16; STREAMS_MOST], node: Node)
+    requires { ⌜ NodeRefers mostStreams node ⌝ }
+    ensures { λ _. ⌜ NodeNotes node (now (rise .entry)) (now (fall .entry)) (now (rise .exit)) (now (fall .exit)) ⌝ }
 {
     match node {
         Node::Constant(_, _) => {}
         Node::Now(v) => {
             let i = v as usize;
-            raise(rise, i, 129);
-            raise(fall, i, 128);
+            raise(rise, i, limits::RISE_OF_ZERO);
+            raise(fall, i, limits::FALL_OF_ZERO);
         }
         Node::At(v, k, _) => {
             let i = v as usize;
@@ -63,16 +72,17 @@ fn note(rise: &mut [u16; 32], fall: &mut [u16; 32], node: Node)
 // `rise` and `fall` hold the largest and the smallest weight to each stream.
 pub fn scan_expr(
     table: &[u8],
-    types: &[u8; 32],
+    types: &[u8; STREAMS_MOST],
     streams: usize,
     wanted: u8,
     at: usize,
     levels: u8,
-    rise: &mut [u16; 32],
-    fall: &mut [u16; 32],
+    rise: &mut [u16; STREAMS_MOST],
+    fall: &mut [u16; STREAMS_MOST],
 ) -> Scanned
-    requires { ⌜ (streams ≤ 32) × (length (now types) ≡ 32) ⌝ }
-    ensures { λ r. ⌜ Scans (parse levels (take streams (now (types .entry))) (now (table .entry)) wanted at) (now (rise .entry)) (now (fall .entry)) (now (rise .exit)) (now (fall .exit)) r ⌝ }
+    requires { ⌜ Types streams (now types) ⌝ }
+    ensures { λ r. ⌜ Scans (parse levels (take streams (now (types .entry))) (now (table .entry)) wanted at)
+        (now (rise .entry)) (now (fall .entry)) (now (rise .exit)) (now (fall .exit)) r ⌝ }
 {
     match node::node_at(table, at) {
         NodeRead::Fault(no) => Scanned::Refused(no, at),

@@ -10,7 +10,8 @@ use lib.ListN.{length, take, drop, length-append, length-drop}
 use borrow.Author.Tests.{eq-eqb, ne-eqb}
 use Rattle.basis.specs.Written.{Wrote}
 use Rattle.basis.proofs.Written.{wrote-as}
-use Rattle.lines.specs.Lines.{linesOf, refusalLine}
+use Rattle.lines.specs.Lines.{refusalLine}
+use Rattle.records.specs.Lines.{linesOf}
 use Rattle.output.specs.Encoding.{overwritten}
 use Rattle.monitor.specs.declared.Run.{Run}
 use Rattle.monitor.specs.declared.Answer.{Answer}

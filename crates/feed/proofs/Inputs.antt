@@ -14,7 +14,7 @@ use Rattle.table.specs.Records.{Declared, declares, wrong, heads}
 use Rattle.table.specs.Table.{Decoded, decoded, refused, Table, Equations, equated, unfit, equationsAt, withHeads, withEquations, tableOf, decode}
 use Rattle.table.proofs.Sound.{sound}
 use Rattle.announce.specs.Announced.{announced}
-use Rattle.plan.proofs.Announcing.{accepting}
+use Rattle.prepare.proofs.Announcing.{accepting}
 use Rattle.monitor.specs.declared.Answer.{Answer}
 use Rattle.monitor.specs.declared.Fault.{Fault}
 use Rattle.monitor.specs.Refusals.{openFault, afterTable}

@@ -1,19 +1,18 @@
 -- Laws of turns one after another: one turn more, rows and closing turns from the first on.
 -- Assumes nothing.
-use Prim.Native.Nat.{ℕ, _+_, _*_, _≤_, _<_}
+use Prim.Native.Nat.{ℕ, _+_, _*_, _≤_}
 use native.Mathlib.Omega.{arith}
 use native.Mathlib.Numerals.{add-one}
 use native.Mathlib.Nat.{suc-mul, zero-mul}
 use mathlib.Core.Path.{_≡_, refl, ap, sym, _∙_}
 use mathlib.Core.List.{List, []}
 use lib.ListN.{length}
-use Rattle.basis.specs.Written.{Wrote}
 use Rattle.basis.proofs.Written.{wrote-nothing, then}
 use Rattle.lines.proofs.Lengths.{wrote-within}
 use Rattle.monitor.specs.declared.Run.{Run}
 use Rattle.monitor.specs.Calls.{After, rowCall, drainCall}
 use Rattle.feed.specs.Head.{wordsAt}
-use Rattle.feed.specs.Rows.{State, begun, onward, lent, afterRow, afterRows, afterDrain, afterDrains, Reached, Taken}
+use Rattle.feed.specs.Rows.{State, begun, onward, lent, afterRow, afterRows, afterDrain, afterDrains, Reached}
 
 -- one turn more, whatever the call
 pub next-turn : (call : Run → List ℕ → After) {x : State} {r r' : Run} {st st' a b c : List ℕ} {p q n : ℕ} → Reached x r st a p b q → Reached (onward (call r st) []) r' st' b q c n → Reached (onward (call (x .run) (x .store)) (x .text)) r' st' a p c n

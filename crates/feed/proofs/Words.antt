@@ -1,12 +1,12 @@
 -- A law of the words of a row: one word more.
 -- Assumes nothing.
 use Prim.Native.Nat.{ℕ, _+_, _*_, _<_}
-use mathlib.Core.Path.{_≡_, refl, _∙_, ap, sym}
-use mathlib.Core.List.{List, [], _∷_, _++_}
+use mathlib.Core.Path.{_≡_, refl}
+use mathlib.Core.List.{List, []}
 use native.Mathlib.Numerals.{add-one}
 use lib.ListN.{length, take, set}
 use lib.Seq.{take-suc-set}
-use Rattle.lines.specs.Lines.{wordAt}
+use Rattle.wire.specs.Bytes.{wordAt}
 use Rattle.feed.specs.Head.{wordsAt}
 
 pub words-none : (input : List ℕ) (from : ℕ) → [] ≡ wordsAt input from 0

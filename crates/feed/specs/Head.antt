@@ -5,19 +5,28 @@ use mathlib.Core.Bool.{cond}
 use mathlib.Core.List.{List, [], _∷_, _++_}
 use lib.Dec.{eqb, ltb}
 use lib.ListN.{length, getD}
-use Rattle.lines.specs.Lines.{wordAt}
+use Rattle.limits.specs.Limits.{mostTable}
+use Rattle.limits.specs.Refusals.{tableLength, wrongKind}
+use Rattle.wire.specs.Bytes.{wordAt}
 use Rattle.feed.specs.declared.Head.{Head}
 use Rattle.feed.specs.declared.Head.the-variants.{Stopped, Refused, Table}
 
--- refusal 1, "table length out of its limits" (1 to 4,096 bytes)
-unfoldable pub lengthOf : ℕ → Head
-lengthOf n = cond (eqb n 0) (Refused 1) (cond (ltb 4096 n) (Refused 1) (Table n))
+-- "kind byte 60, two bytes of table length"
+abbrev pub kindTable : ℕ
+kindTable = 0x60
 
--- "kind byte 60, two bytes of table length"; "A first byte other than 60 gives `r 3 0`"
-unfoldable pub headOf : List ℕ → Head
-headOf s =
+abbrev pub headSize : ℕ
+headSize = 3
+
+-- "table length out of its limits"
+unfoldable pub lengthOf : ℕ → Head
+lengthOf n = cond (eqb n 0) (Refused tableLength) (cond (ltb mostTable n) (Refused tableLength) (Table n))
+
+-- "A first byte other than 60 gives `r 3 0`"
+unfoldable pub inputHead : List ℕ → Head
+inputHead s =
     cond (eqb (length s) 0) Stopped
-    (cond (eqb (getD s 0 0) 0x60) (cond (ltb (length s) 3) Stopped (lengthOf (getD s 1 0 + 256 * getD s 2 0))) (Refused 3))
+    (cond (eqb (getD s 0 0) kindTable) (cond (ltb (length s) headSize) Stopped (lengthOf (getD s 1 0 + 256 * getD s 2 0))) (Refused wrongKind))
 
 -- n words from byte `from` on
 unfoldable pub wordsAt : (input : List ℕ) (from n : ℕ) → List ℕ

@@ -7,18 +7,21 @@ use mathlib.Core.List.{List, [], _++_}
 use lib.Dec.{eqb}
 use lib.ListN.{length, take, replicate}
 use Rattle.basis.specs.Written.{Wrote}
-use Rattle.lines.specs.Lines.{linesOf, refusalLine}
+use Rattle.limits.specs.Refusals.{accepted}
+use Rattle.lines.specs.Lines.{refusalLine}
+use Rattle.records.specs.Kinds.{mostRoom}
+use Rattle.records.specs.Lines.{linesOf}
 use Rattle.monitor.specs.declared.Run.{Run}
 use Rattle.monitor.specs.Calls.{After, rowCall, drainCall}
 use Rattle.feed.specs.Head.{wordsAt}
 
--- the output lent to a turn: "10 bytes for each output and 6 for each trigger", of which there are at most 31
+-- the output lent to a turn: as long as the room of any table
 abbrev pub lent : List ℕ
-lent = replicate 496 0
+lent = replicate mostRoom 0
 
 -- a line for each record that the call gave, or "A refused row is reported"
 unfoldable pub answerText : (number place : ℕ) (records : List ℕ) → List ℕ
-answerText number place records = cond (eqb number 0) (linesOf records) (refusalLine number place)
+answerText number place records = cond (eqb number accepted) (linesOf records) (refusalLine number place)
 
 abbrev pub printed : After → List ℕ
 printed a = answerText (a .answer .number) (a .answer .place) (take (a .answer .count) (a .output))

@@ -5,9 +5,20 @@ ghost use mathlib.Core.Path.{_≡_};
 ghost use Prim.Native.Nat.{_+_, _*_, _≤_, _<_};
 ghost use lib.ListN.{length, take, getD};
 ghost use Rattle.basis.specs.Written.{Wrote};
+ghost use Rattle.limits.specs.Limits.{mostStreams};
+ghost use Rattle.lines.specs.Lines.{mostRefusalLine};
+ghost use Rattle.records.specs.Kinds.{mostText};
 ghost use Rattle.monitor.specs.Refusals.{isDraining};
-ghost use Rattle.feed.specs.Head.{headOf, wordsAt};
+ghost use Rattle.feed.specs.Head.{inputHead, wordsAt};
 ghost use Rattle.feed.specs.Rows.{answerText, begun, afterRow, afterRows, afterDrain, afterDrains, Reached, Taken};
+
+// "kind byte 60, two bytes of table length"
+pub const KIND_TABLE: u8 = 0x60;
+
+pub const HEAD_BYTES: usize = 3;
+
+// A run has fewer closing turns, since a look-ahead has 16 bits: the count only ends the loop.
+const TURNS_MOST: usize = 65536;
 
 // What the bytes of the head say: the input stops in them, a refusal with place 0, or the table's length.
 pub enum Head {
@@ -16,8 +27,7 @@ pub enum Head {
     Table(usize),
 }
 
-// A run after a turn, and where its text ends. A turn gives at most 16 bytes for each of 31 outputs, 496 in all ("Room"), and their lines
-// take at most three times as many, 1,488.
+// A run after a turn, and where its text ends.
 struct Turned {
     run: Run,
     at: usize,
@@ -38,31 +48,25 @@ pub struct Drained {
     pub at: usize,
 }
 
-fn wide(x: u8) -> usize
-    ensures { λ r. ⌜ (r ≡ x) × (r < 256) ⌝ }
-{
-    x as usize
-}
-
 // The head, as far as the input has it.
 pub fn head_of(head: &[u8]) -> Head
-    ensures { λ r. ⌜ r ≡ headOf (now (head .entry)) ⌝ }
+    ensures { λ r. ⌜ r ≡ inputHead (now (head .entry)) ⌝ }
 {
     if head.len() == 0 {
         return Head::Stopped;
     }
-    if head[0] != 0x60 {
-        return Head::Refused(3);
+    if head[0] != KIND_TABLE {
+        return Head::Refused(limits::KIND);
     }
-    if head.len() < 3 {
+    if head.len() < HEAD_BYTES {
         return Head::Stopped;
     }
-    let length = wide(head[1]) + 256 * wide(head[2]);
+    let length = wire::byte_size(head[1]) + 256 * wire::byte_size(head[2]);
     if length == 0 {
-        return Head::Refused(1);
+        return Head::Refused(limits::TABLE_LENGTH);
     }
-    if 4096 < length {
-        return Head::Refused(1);
+    if limits::TABLE_MOST < length {
+        return Head::Refused(limits::TABLE_LENGTH);
     }
     Head::Table(length)
 }
@@ -72,7 +76,7 @@ pub fn inputs_of(table: &[u8]) -> usize
     requires { ⌜ 2 < length (now table) ⌝ }
     ensures { λ r. ⌜ r ≡ getD (now (table .entry)) 2 0 ⌝ }
 {
-    wide(table[2])
+    wire::byte_size(table[2])
 }
 
 // The words of the row that begins at byte `from`.
@@ -82,7 +86,7 @@ fn row_words(input: &[u8], from: usize, inputs: usize, words: &mut [u32])
 {
     let mut i: usize = 0;
     while i < inputs {
-        words[i] = lines::word_at(input, from + 4 * i);
+        words[i] = wire::word_at(input, from + 4 * i);
         i += 1;
     }
 }
@@ -96,11 +100,11 @@ fn put_answer(
     text: &mut [u8],
     at: usize,
 ) -> usize
-    requires { ⌜ (count ≤ length (now out)) × (at + 3 * count ≤ length (now text)) × (at + 27 ≤ length (now text)) ⌝ }
+    requires { ⌜ (count ≤ length (now out)) × (at + 3 * count ≤ length (now text)) × (at + mostRefusalLine ≤ length (now text)) ⌝ }
     ensures { λ r. ⌜ Wrote (now (text .entry)) at (answerText number place (take count (now (out .entry)))) (now (text .exit)) r ⌝ }
 {
-    if number == 0 {
-        lines::put_lines(out, count, text, at)
+    if number == limits::ACCEPTED {
+        records::put_lines(out, count, text, at)
     } else {
         lines::put_refusal_line(text, at, number, place)
     }
@@ -117,11 +121,13 @@ fn answer_row(
     text: &mut [u8],
     at: usize,
 ) -> Turned
-    requires { ⌜ (from + 4 * inputs ≤ length (now input)) × (inputs ≤ 31) × (at + 1488 ≤ length (now text)) ⌝ }
-    ensures { λ r. ⌜ Reached (afterRow (now (table .entry)) (wordsAt (now (input .entry)) from inputs) (begun run (now (store .entry)))) (r .run) (now (store .exit)) (now (text .entry)) at (now (text .exit)) (r .at) ⌝ }
+    requires { ⌜ (from + 4 * inputs ≤ length (now input)) × (inputs < mostStreams) × (at + mostText ≤ length (now text)) ⌝ }
+    ensures { λ r. ⌜
+        Reached (afterRow (now (table .entry)) (wordsAt (now (input .entry)) from inputs) (begun run (now (store .entry))))
+        (r .run) (now (store .exit)) (now (text .entry)) at (now (text .exit)) (r .at) ⌝ }
 {
-    let mut words = [0u32; 32];
-    let mut out = [0u8; 496];
+    let mut words = [0u32; limits::STREAMS_MOST];
+    let mut out = [0u8; records::ROOM_MOST];
     row_words(input, from, inputs, &mut words);
     let answer = run.row(table, store, &words[..inputs], &mut out);
     let end = put_answer(answer.number, answer.place, &out, answer.count, text, at);
@@ -138,8 +144,10 @@ pub fn answer_rows(
     inputs: usize,
     text: &mut [u8],
 ) -> Fed
-    requires { ⌜ (1 ≤ inputs) × (inputs ≤ 31) × (1488 ≤ length (now text)) ⌝ }
-    ensures { λ r. ⌜ Reached (afterRows (now (table .entry)) (now (input .entry)) inputs (r .rows) (begun run (now (store .entry)))) (r .run) (now (store .exit)) (now (text .entry)) 0 (now (text .exit)) (r .at) ⌝ }
+    requires { ⌜ (1 ≤ inputs) × (inputs < mostStreams) × (mostText ≤ length (now text)) ⌝ }
+    ensures { λ r. ⌜
+        Reached (afterRows (now (table .entry)) (now (input .entry)) inputs (r .rows) (begun run (now (store .entry))))
+        (r .run) (now (store .exit)) (now (text .entry)) 0 (now (text .exit)) (r .at) ⌝ }
     ensures { λ r. ⌜ Taken (now (input .entry)) inputs (r .rows) (r .used) ⌝ }
 {
     let size = 4 * inputs;
@@ -147,7 +155,7 @@ pub fn answer_rows(
     let mut rows: usize = 0;
     let mut used: usize = 0;
     let mut at: usize = 0;
-    while size <= input.len() - used && 1488 <= text.len() - at {
+    while size <= input.len() - used && records::TEXT_MOST <= text.len() - at {
         let turned = answer_row(latest, table, store, input, used, inputs, text, at);
         let next = turned.run;
         latest = next;
@@ -177,25 +185,29 @@ pub fn is_draining(run: Run) -> bool
 
 // The lines of one closing turn.
 fn drain_turn(run: Run, table: &[u8], store: &mut [u32], text: &mut [u8], at: usize) -> Turned
-    requires { ⌜ at + 1488 ≤ length (now text) ⌝ }
-    ensures { λ r. ⌜ Reached (afterDrain (now (table .entry)) (begun run (now (store .entry)))) (r .run) (now (store .exit)) (now (text .entry)) at (now (text .exit)) (r .at) ⌝ }
+    requires { ⌜ at + mostText ≤ length (now text) ⌝ }
+    ensures { λ r. ⌜
+        Reached (afterDrain (now (table .entry)) (begun run (now (store .entry))))
+        (r .run) (now (store .exit)) (now (text .entry)) at (now (text .exit)) (r .at) ⌝ }
 {
-    let mut out = [0u8; 496];
+    let mut out = [0u8; records::ROOM_MOST];
     let answer = run.drain(table, store, &mut out);
     let end = put_answer(answer.number, answer.place, &out, answer.count, text, at);
     let next = answer.run;
     Turned { run: next, at: end }
 }
 
-// Closing turns: as many as there are and as the text has room for. A run has fewer than 65,536, which ends the loop in any case.
+// Closing turns: as many as there are and as the text has room for.
 pub fn drain_turns(run: Run, table: &[u8], store: &mut [u32], text: &mut [u8]) -> Drained
-    requires { ⌜ 1488 ≤ length (now text) ⌝ }
-    ensures { λ r. ⌜ Reached (afterDrains (now (table .entry)) (r .turns) (begun run (now (store .entry)))) (r .run) (now (store .exit)) (now (text .entry)) 0 (now (text .exit)) (r .at) ⌝ }
+    requires { ⌜ mostText ≤ length (now text) ⌝ }
+    ensures { λ r. ⌜
+        Reached (afterDrains (now (table .entry)) (r .turns) (begun run (now (store .entry))))
+        (r .run) (now (store .exit)) (now (text .entry)) 0 (now (text .exit)) (r .at) ⌝ }
 {
     let mut latest = run;
     let mut turns: usize = 0;
     let mut at: usize = 0;
-    while turns < 65536 && 1488 <= text.len() - at && is_draining(latest) {
+    while turns < TURNS_MOST && records::TEXT_MOST <= text.len() - at && is_draining(latest) {
         let turned = drain_turn(latest, table, store, text, at);
         let next = turned.run;
         latest = next;

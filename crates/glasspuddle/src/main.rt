@@ -6,6 +6,9 @@ use monitor::Run;
 ghost use mathlib.Core.Path.{_≡_};
 ghost use Prim.Native.Nat.{_+_, _*_, _-_, _≤_, _<_};
 ghost use lib.ListN.{length};
+ghost use Rattle.limits.specs.Limits.{mostTable, mostStreams};
+ghost use Rattle.records.specs.Kinds.{mostText};
+ghost use Rattle.feed.specs.Head.{headSize};
 
 // The rows that a piece of input had: the run after them, and the bytes that they took.
 struct Answered {
@@ -46,14 +49,14 @@ fn say_end(rows: u32) {
 
 // The first byte and, where it is 60, the two bytes of length. Behind a wrong byte nothing is waited for.
 fn read_head(head: &mut [u8]) -> usize
-    requires { ⌜ length (now head) ≡ 3 ⌝ }
-    ensures { λ r. ⌜ r ≤ 3 ⌝ }
+    requires { ⌜ length (now head) ≡ headSize ⌝ }
+    ensures { λ r. ⌜ r ≤ headSize ⌝ }
 {
     let first = io::read_full(STDIN_FILENO, &mut head[..1]);
     if first == 0 {
         return 0;
     }
-    if head[0] != 0x60 {
+    if head[0] != feed::KIND_TABLE {
         return 1;
     }
     let more = io::read_full(STDIN_FILENO, &mut head[1..]);
@@ -80,7 +83,7 @@ fn answer_all(
     end: usize,
     text: &mut [u8],
 ) -> Answered
-    requires { ⌜ (1 ≤ inputs) × (inputs ≤ 31) × (end ≤ length (now input)) × (1488 ≤ length (now text)) ⌝ }
+    requires { ⌜ (1 ≤ inputs) × (inputs < mostStreams) × (end ≤ length (now input)) × (mostText ≤ length (now text)) ⌝ }
     ensures { λ r. ⌜ (r .used ≤ end) × (end - r .used < 4 * inputs) ⌝ }
 {
     let mut latest = run;
@@ -122,7 +125,7 @@ fn take_some(
     have: usize,
     text: &mut [u8],
 ) -> Piece
-    requires { ⌜ (1 ≤ inputs) × (inputs ≤ 31) × (have ≤ length (now input)) × (length (now input) ≡ 65536) × (1488 ≤ length (now text)) ⌝ }
+    requires { ⌜ (1 ≤ inputs) × (inputs < mostStreams) × (have ≤ length (now input)) × (length (now input) ≡ 65536) × (mostText ≤ length (now text)) ⌝ }
     ensures { λ r. ⌜ (r .have < 4 * inputs) × (r .got ≤ 65536) ⌝ }
 {
     let got = read_more(input, have);
@@ -139,7 +142,7 @@ fn take_some(
 
 // The closing turns and the last line. Each piece has a turn at least, and a run has fewer than 65,536: the count only ends the loop.
 fn finish(run: Run, table: &[u8], store: &mut [u32], text: &mut [u8])
-    requires { ⌜ 1488 ≤ length (now text) ⌝ }
+    requires { ⌜ mostText ≤ length (now text) ⌝ }
 {
     let closed = run.close(table);
     let first = closed.run;
@@ -164,12 +167,12 @@ fn take_rows(
     input: &mut [u8],
     text: &mut [u8],
 )
-    requires { ⌜ (1 ≤ inputs) × (inputs ≤ 31) × (length (now table) ≤ 4096) × (length (now input) ≡ 65536) × (1488 ≤ length (now text)) ⌝ }
+    requires { ⌜ (1 ≤ inputs) × (inputs < mostStreams) × (length (now table) ≤ mostTable) × (length (now input) ≡ 65536) × (mostText ≤ length (now text)) ⌝ }
 {
     let mut latest = run;
     let mut have: usize = 0;
     let mut got: usize = 1;
-    let mut read: usize = 3 + table.len();
+    let mut read: usize = feed::HEAD_BYTES + table.len();
     while got > 0 && read <= usize::MAX - 65536 {
         let piece = take_some(latest, table, store, inputs, input, have, text);
         let next = piece.run;
@@ -185,11 +188,11 @@ fn take_rows(
 }
 
 fn run_table(table: &[u8])
-    requires { ⌜ length (now table) ≤ 4096 ⌝ }
+    requires { ⌜ length (now table) ≤ mostTable ⌝ }
 {
-    let mut store = [0u32; 4096];
+    let mut store = [0u32; limits::STORE_MOST];
     let opened = monitor::open(table, &mut store);
-    if opened.number != 0 {
+    if opened.number != limits::ACCEPTED {
         say_refusal(opened.number, opened.place);
         return;
     }
@@ -201,19 +204,19 @@ fn run_table(table: &[u8])
 }
 
 fn read_table(length: usize)
-    requires { ⌜ length ≤ 4096 ⌝ }
+    requires { ⌜ length ≤ mostTable ⌝ }
 {
     let mut table = io::buffer();
     let got = io::read_full(STDIN_FILENO, &mut table[..length]);
     if got < length {
-        say_stop(3 + got as u64);
+        say_stop((feed::HEAD_BYTES + got) as u64);
         return;
     }
     run_table(&table[..length]);
 }
 
 fn main() {
-    let mut head = [0u8; 3];
+    let mut head = [0u8; feed::HEAD_BYTES];
     let got = read_head(&mut head);
     let found = feed::head_of(&head[..got]);
     match found {

@@ -6,7 +6,7 @@ use Prim.Native.Nat.{ℕ, _+_, _^_, _<_, _≤_}
 use native.Mathlib.Omega.{arith}
 use lib.ListN.{length, take, length-append, length-take}
 use Rattle.basis.specs.Written.{Wrote}
-use Rattle.lines.specs.Lines.{decimal, spaced, hex8, lineEnd, valueLine, triggerLine}
+use Rattle.lines.specs.Lines.{decimal, spaced, hex8, lineEnd, mostValueLine, valueLine, mostTriggerLine, triggerLine}
 use Rattle.lines.proofs.Decimals.{digits-at-most}
 
 byte-digits : (n : ℕ) → n < 256 → length (decimal n) ≤ 3
@@ -33,12 +33,12 @@ pub hex8-length : (w : ℕ) → length (hex8 w) ≡ 8
 unfolding hex8
 hex8-length w = refl
 
-pub value-line-length : (stream position word : ℕ) → stream < 256 → position < 2 ^ 32 → length (valueLine stream position word) ≤ 26
+pub value-line-length : (stream position word : ℕ) → stream < 256 → position < 2 ^ 32 → length (valueLine stream position word) ≤ mostValueLine
 unfolding valueLine
 value-line-length stream position word h k =
     omega (arith, byte-and-word stream position h k, length-append (spaced stream ++ spaced position) (32 ∷ (hex8 word ++ lineEnd)), length-append (hex8 word) lineEnd, hex8-length word)
 
-pub trigger-line-length : (stream position : ℕ) → stream < 256 → position < 2 ^ 32 → length (triggerLine stream position) ≤ 17
+pub trigger-line-length : (stream position : ℕ) → stream < 256 → position < 2 ^ 32 → length (triggerLine stream position) ≤ mostTriggerLine
 unfolding triggerLine
 trigger-line-length stream position h k =
     omega (arith, byte-and-word stream position h k, length-append (spaced stream ++ spaced position) lineEnd)

@@ -1,10 +1,9 @@
--- The program's lines, byte by byte (document 01, "The program"): a line of each sort, and the lines of the records 50 and 51 of "A run".
+-- The program's lines, byte by byte (document 01, "The program"): a line of each sort.
 -- Assumes nothing.
-use Prim.Native.Nat.{ℕ, zero, suc, _+_, _*_, _/_, _%_}
+use Prim.Native.Nat.{ℕ, zero, suc, _+_, _/_, _%_}
 use mathlib.Core.Bool.{cond}
 use mathlib.Core.List.{List, [], _∷_, _++_}
-use lib.Dec.{eqb, ltb, leb}
-use lib.ListN.{length, getD, drop}
+use lib.Dec.{ltb}
 use Rattle.basis.specs.Choices.{orElse}
 
 -- the decimal digits of n in ASCII, the most significant first, no more than `most` of them
@@ -40,49 +39,37 @@ pair letter first second = letter ∷ (spaced first ++ spaced second)
 abbrev pub lineEnd : List ℕ
 lineEnd = 0x0A ∷ []
 
--- `v stream position value`
+-- `v stream position value`: a stream has at most 3 digits, a position 10
+abbrev pub mostValueLine : ℕ
+mostValueLine = 26
+
 unfoldable pub valueLine : (stream position value : ℕ) → List ℕ
 valueLine stream position value = pair 118 stream position ++ (32 ∷ (hex8 value ++ lineEnd))
 
 -- `t stream position`
+abbrev pub mostTriggerLine : ℕ
+mostTriggerLine = 17
+
 unfoldable pub triggerLine : (stream position : ℕ) → List ℕ
 triggerLine stream position = pair 116 stream position ++ lineEnd
 
--- `r number place`
+-- `r number place`: a place of 64 bits has at most 20 digits
+abbrev pub mostRefusalLine : ℕ
+mostRefusalLine = 27
+
 unfoldable pub refusalLine : (number place : ℕ) → List ℕ
 refusalLine number place = pair 114 number place ++ lineEnd
 
 -- `s n`
+abbrev pub mostStopLine : ℕ
+mostStopLine = 23
+
 unfoldable pub stopLine : ℕ → List ℕ
 stopLine n = 115 ∷ (spaced n ++ lineEnd)
 
 -- `end N`
+abbrev pub mostEndLine : ℕ
+mostEndLine = 15
+
 unfoldable pub endLine : ℕ → List ℕ
 endLine n = 101 ∷ 110 ∷ 100 ∷ (spaced n ++ lineEnd)
-
--- four bytes as a number, "Numbers are little-endian"
-abbrev pub wordOf : (a b c d : ℕ) → ℕ
-wordOf a b c d = a + 256 * b + 65536 * c + 16777216 * d
-
--- the number in the four bytes from i on
-abbrev pub wordAt : List ℕ → ℕ → ℕ
-wordAt l i = wordOf (getD l i 0) (getD l (i + 1) 0) (getD l (i + 2) 0) (getD l (i + 3) 0)
-
--- how many bytes the record takes that a list of bytes starts with: 10 for kind 50, 6 for kind 51, 0 where it starts with neither, whole
-unfoldable pub recordSize : List ℕ → ℕ
-recordSize l =
-    cond (eqb (getD l 0 0) 0x50) (cond (leb 10 (length l)) 10 0) (cond (eqb (getD l 0 0) 0x51) (cond (leb 6 (length l)) 6 0) 0)
-
--- the line of that record: stream in byte 1, position from byte 2 on, value word from byte 6 on
-unfoldable pub recordLine : List ℕ → List ℕ
-recordLine l =
-    cond (eqb (getD l 0 0) 0x50) (valueLine (getD l 1 0) (wordAt l 2) (wordAt l 6)) (triggerLine (getD l 1 0) (wordAt l 2))
-
--- the lines of no more than `most` records
-unfoldable pub firstLines : (most : ℕ) → List ℕ → List ℕ
-firstLines zero l = []
-firstLines (suc most) l = orElse (eqb (recordSize l) 0) [] λ _. recordLine l ++ firstLines most (drop (recordSize l) l)
-
--- the lines of a run of records; what is no record of kind 50 or 51, whole, ends it
-unfoldable pub linesOf : List ℕ → List ℕ
-linesOf l = firstLines (length l) l

@@ -3,15 +3,3 @@ pub mod References
 pub mod Schedules
 pub mod Acceptance
 pub mod Existence
-pub mod Due
-pub mod Turns
-pub mod Stores
-pub mod Types
-pub mod InPlace
-pub mod Parts
-pub mod Gathers
-pub mod Calls
-pub mod Runs
-pub mod Once
-pub mod Unread
-pub mod Demands

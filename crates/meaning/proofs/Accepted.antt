@@ -1,44 +1,47 @@
 -- What acceptance gives of a table: a schedule, exactly one evaluation model for each list of rows, prefix independence, and a plan
 -- whose numbers are right (document 01, "What the contracts must exclude": demand 2).
 -- Assumes nothing.
-use Prim.Native.Nat.{ℕ, suc, _+_, _*_, _≤_, _<_}
+use Prim.Native.Nat.{ℕ, _≤_, _<_}
 use mathlib.Core.Path.{_≡_}
 use mathlib.Core.Bool.{Bool, true, false}
 use mathlib.Core.List.{List}
-use lib.ListN.{length, getD}
+use lib.ListN.{getD}
 use native.Mathlib.Omega.{arith}
 use lib.IntN.{ℤ}
 use Rattle.basis.specs.Edges.{among}
 use Rattle.walks.specs.Walks.{Right}
 use Rattle.walks.specs.Schedule as walks
-use Rattle.value.specs.declared.Value.{Value}
 use Rattle.value.specs.declared.Value.the-variants.{Flag}
 use Rattle.walks.proofs.Schedule.{schedule}
 use Rattle.table.proofs.Sound.{sound}
 use Rattle.table.specs.Table.{decode, decoded, Table, streams, equationOf, edges}
 use Rattle.table.specs.Sound.{Sound}
-use Rattle.lola.specs.Schedule.{Schedule, Keeps}
+use Rattle.limits.specs.Limits.{mostLevels}
+use Rattle.lola.specs.Schedule.{Schedule}
+use Rattle.run.specs.Keeps.{Keeps}
 use Rattle.lola.specs.Graph.{Depends}
-use Rattle.lola.specs.Run.{Typed, Announced}
-use Rattle.lola.proofs.Acceptance.{schedule-of-edges, keeps-of-edges, loops-into, look-into}
-use Rattle.lola.specs.Models.{trace}
-use Rattle.lola.proofs.Existence.{solve, solve-is, well-defined}
-use Rattle.lola.proofs.Types.{model-fits}
-use Rattle.lola.proofs.Demands.{demand2}
-use Rattle.meaning.specs.Tables.{specOf, readIn, TableModel, Meant}
-use Rattle.meaning.specs.Plans.{planOf, FitsIn}
+use Rattle.run.specs.Run.{Typed, Announced}
+use Rattle.run.specs.Layout.{Lays}
+use Rattle.store.specs.Store.{layoutOf}
+use Rattle.store.proofs.Layouts.{laid}
+use Rattle.lola.proofs.Acceptance.{schedule-of-edges, loops-into, look-into}
+use Rattle.run.proofs.Keeps.{keeps-of-edges}
+use Rattle.lola.proofs.Existence.{well-defined}
+use Rattle.run.proofs.Types.{model-fits}
+use Rattle.run.proofs.Demands.{demand2}
+use Rattle.meaning.specs.Tables.{specOf, readIn, Meant}
+use Rattle.meaning.specs.Plans.{tablePlan, FitsIn}
 use Rattle.meaning.proofs.Types.{reading-of-type}
 use Rattle.meaning.proofs.Typing.{expression-yields, default-of-type}
 use Rattle.meaning.proofs.Graph.{depends-edge, edge-depends}
 
 module _ (s : List ℕ) (t : Table) (fine : Sound s t) (look kept : ℕ → ℕ) where
   -- the table's types hold of every plan of it
-  pub plan-typed : (closing room : ℕ) (wellFormed : List ℕ → Bool) → Typed (planOf t look kept closing room wellFormed) (FitsIn (t .types))
+  pub plan-typed : (closing room : ℕ) (wellFormed : List ℕ → Bool) → Typed (tablePlan t look kept closing room wellFormed) (FitsIn (t .types))
   plan-typed closing room wellFormed = record {
     read = λ v b l. reading-of-type (getD (t .types) v 0) b;
-    back = λ v x l e. e;
     defaults = λ y v k d e. default-of-type (t .types) v k d (equationOf t y .expr) (e .occurs);
-    equations = λ y o l f g. expression-yields (t .types) s 16 (getD (t .types) y 0) (equationOf t y .start) (fine .stands y o l .parsed) f g;
+    equations = λ y o l f g. expression-yields (t .types) s mostLevels (getD (t .types) y 0) (equationOf t y .start) (fine .stands y o l .parsed) f g;
   }
 
   module _ (right : Right (among (edges t)) (streams t) look kept) (order : walks.Schedule (among (edges t)) (streams t) look) where
@@ -51,17 +54,20 @@ module _ (s : List ℕ) (t : Table) (fine : Sound s t) (look kept : ℕ → ℕ)
     into : (y v : ℕ) (k : ℤ) → Depends (specOf t) y v k → among (edges t) y v k
     into = depends-edge t (fine .outputs)
 
+    table-laid : Lays (layoutOf (t .types) kept) (streams t) kept (FitsIn (t .types))
+    table-laid = laid (t .types) kept (streams t) (fine .few) (FitsIn (t .types)) (λ v w. reading-of-type (getD (t .types) v 0) w) (λ v x e. e)
+
     pub table-schedule : Schedule (specOf t) look (order .rank)
     table-schedule = schedule-of-edges (specOf t) (among (edges t)) look kept some within into right order
 
     pub table-keeps : Keeps (specOf t) look kept
-    table-keeps = keeps-of-edges (specOf t) (among (edges t)) look kept some within into right
+    table-keeps = keeps-of-edges (specOf t) (among (edges t)) look kept within into right
 
     pub table-announced :
         (closing room : ℕ) (wellFormed : List ℕ → Bool) → ((v : ℕ) → v < streams t → look v ≤ closing) →
-        Announced (planOf t look kept closing room wellFormed) (order .rank) (FitsIn (t .types))
+        Announced (tablePlan t look kept closing room wellFormed) (order .rank) (FitsIn (t .types))
     table-announced closing room wellFormed longest =
-        record { schedule = table-schedule; keeps = table-keeps; longest = longest; typed = plan-typed closing room wellFormed }
+        record { schedule = table-schedule; keeps = table-keeps; longest = longest; typed = plan-typed closing room wellFormed; laid = table-laid }
 
     pub table-meant : Meant t look
     table-meant = record {
@@ -69,14 +75,8 @@ module _ (s : List ℕ) (t : Table) (fine : Sound s t) (look kept : ℕ → ℕ)
       bounded = loops-into into (right .below);
       distance = λ v l. look-into into (edge-depends t (fine .outputs)) (right .ahead v l);
       demand2 = demand2 (specOf t) look (order .rank) table-schedule (Flag false) (readIn t) 0;
-      typed = λ rows σ m. model-fits (planOf t look kept 0 0 (λ ws. true)) (order .rank) (FitsIn (t .types)) table-schedule (plan-typed 0 0 (λ ws. true)) rows σ m;
+      typed = λ rows σ m. model-fits (tablePlan t look kept 0 0 (λ ws. true)) (order .rank) (FitsIn (t .types)) table-schedule (plan-typed 0 0 (λ ws. true)) rows σ m;
     }
-
-    -- the values of the one model, by computation
-    pub table-solved :
-        (rows : List (List ℕ)) (σ : ℕ → ℕ → Value) → TableModel t rows σ → (fuel v j : ℕ) → suc (j + look v) * streams t ≤ fuel → v < streams t → j < length rows →
-        σ v j ≡ solve (specOf t) (Flag false) (length rows) (trace (readIn t) 0 rows) fuel v j
-    table-solved rows σ m = solve-is (specOf t) look (order .rank) table-schedule (Flag false) (length rows) (trace (readIn t) 0 rows) σ m
 
   -- an order within the turn is there
   module _ (right : Right (among (edges t)) (streams t) look kept) where

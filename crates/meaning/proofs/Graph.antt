@@ -1,20 +1,19 @@
 -- The edges of a table are the edges of its specification's dependency graph (document 01, "What the check announces"; source 004,
 -- definition 8).
 -- Assumes nothing.
-use Prim.Native.Nat.{ℕ, zero, suc, _+_, _-_, _≤_, _<_}
-use mathlib.Core.Path.{_≡_, refl, sym, subst}
-use mathlib.Core.List.{List, [], _∷_, _++_}
+use Prim.Native.Nat.{ℕ, _+_, _-_, _≤_, _<_}
+use mathlib.Core.Path.{_≡_, refl, sym}
+use mathlib.Core.List.{List, _++_}
 use mathlib.Core.Logic.{inl, inr, ⊎-elim}
-use lib.ListN.{length, getD}
-use native.Mathlib.Omega.{arith}
+use lib.ListN.{length}
 use lib.IntN.{ℤ}
 use Rattle.basis.specs.Edges.{among, Has, here}
 use Rattle.basis.proofs.Edges.{has-after, has-before, has-either}
-use Rattle.node.specs.declared.Node.the-variants.{Constant, Now, At}
+use Rattle.node.specs.declared.Node.the-variants.{Now, At}
 use Rattle.value.specs.declared.Value.{Value}
 use Rattle.expression.specs.Syntax.{Expr, leaf, unary, binary, ternary}
 use Rattle.table.proofs.Edges.{reference-edge, edge-output, edge-reference}
-use Rattle.table.specs.Table.{Table, Equation, streams, equationOf, edgesFrom, edges}
+use Rattle.table.specs.Table.{Table, streams, equationOf, edges}
 use Rattle.expression.specs.References.{references, nodeReferences}
 use Rattle.lola.specs.Expressions.{Ref, target, offset}
 use Rattle.lola.specs.Graph.{Depends, edge, Occurs, in1, in2a, in2b, in3a, in3b, in3c}

@@ -6,28 +6,35 @@ use mathlib.Core.List.{List}
 use lib.ListN.{getD}
 use Rattle.value.specs.declared.Value.{Value}
 use Rattle.value.specs.declared.Value.the-variants.{Flag}
-use Rattle.value.specs.Values.{imageOf}
-use Rattle.table.specs.Table.{Table}
-use Rattle.lola.specs.Run.{Plan}
+use Rattle.limits.specs.Limits.{mostRows}
+use Rattle.expression.specs.Syntax.{Expr}
+use Rattle.table.specs.Table.{Table, streams, equationOf}
+use Rattle.run.specs.Run.{Plan}
+use Rattle.store.specs.Store.{readAs, layoutOf}
 use Rattle.meaning.specs.Expressions.{OfType}
-use Rattle.meaning.specs.Tables.{specOf, readIn}
+use Rattle.meaning.specs.Tables.{specIn}
 
--- closing turns, room and the test of a row's words are the caller's; "at most 4,294,967,295 rows in a run"
-abbrev pub planOf : Table → (look kept : ℕ → ℕ) (closing room : ℕ) → (List ℕ → Bool) → Plan Value ℕ ℕ
-planOf t look kept closing room wellFormed =
+-- The plan of a table by its parts: I, S, the streams' types and the outputs' equations; then the announced numbers, and the test of a
+-- row's words. "at most 4,294,967,295 rows in a run"
+abbrev pub planOf : (inputs streams : ℕ) (types : List ℕ) → (ℕ → Expr) → (look kept : ℕ → ℕ) (closing room : ℕ) → (List ℕ → Bool) → Plan Value ℕ ℕ
+planOf inputs streams types eqs look kept closing room wellFormed =
     record {
-      spec = specOf t;
+      spec = specIn inputs streams types eqs;
       look = look;
       kept = kept;
       closing = closing;
       room = room;
-      limit = 4294967295;
-      get = readIn t;
-      put = imageOf;
+      limit = mostRows;
+      get = readAs types;
       zero-word = 0;
+      layout = layoutOf types kept;
       blank = Flag false;
       wellFormed = wellFormed;
     }
+
+-- of a decoded table
+abbrev pub tablePlan : Table → (look kept : ℕ → ℕ) (closing room : ℕ) → (List ℕ → Bool) → Plan Value ℕ ℕ
+tablePlan t = planOf (t .inputs) (streams t) (t .types) (λ y. equationOf t y .expr)
 
 -- x is of stream v's type
 abbrev pub FitsIn : List ℕ → ℕ → Value → Type 0

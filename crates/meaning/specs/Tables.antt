@@ -5,21 +5,25 @@ use Prim.Native.Nat.{ℕ, _<_}
 use mathlib.Core.List.{List}
 use lib.ListN.{length, getD}
 use Rattle.value.specs.declared.Value.{Value}
-use Rattle.value.specs.Values.{readingOf}
+use Rattle.expression.specs.Syntax.{Expr}
 use Rattle.table.specs.Table.{Table, streams, equationOf}
 use Rattle.lola.specs.Expressions.{Spec}
 use Rattle.lola.specs.Models.{Model, WellDefined, trace}
 use Rattle.lola.specs.Graph.{FutureBounded, LookAheadDistance}
-use Rattle.lola.specs.Demands.{Demand2}
+use Rattle.run.specs.Demands.{Demand2}
+use Rattle.store.specs.Store.{readAs}
 use Rattle.meaning.specs.Expressions.{ops, meaning, OfType}
 
 -- "With I inputs and O outputs, streams are numbered 0 to S-1, S = I+O, inputs first."
+abbrev pub specIn : (inputs streams : ℕ) (types : List ℕ) → (ℕ → Expr) → Spec Value ℕ
+specIn inputs streams types eqs = record { inputs = inputs; streams = streams; equation = λ y. meaning types (eqs y); ops = ops }
+
 abbrev pub specOf : Table → Spec Value ℕ
-specOf t = record { inputs = t .inputs; streams = streams t; equation = λ y. meaning (t .types) (equationOf t y .expr); ops = ops }
+specOf t = specIn (t .inputs) (streams t) (t .types) (λ y. equationOf t y .expr)
 
 -- a word of stream v as a value
 abbrev pub readIn : Table → ℕ → ℕ → Value
-readIn t v w = readingOf (getD (t .types) v 0) w
+readIn t = readAs (t .types)
 
 -- σ is an evaluation model of the table for these rows
 abbrev pub TableModel : Table → List (List ℕ) → (ℕ → ℕ → Value) → Type 0

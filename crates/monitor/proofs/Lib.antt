@@ -1,5 +1,6 @@
 pub mod Tests
 pub mod Refusals
 pub mod Turning
+pub mod Taking
 pub mod Leaving
 pub mod Determined

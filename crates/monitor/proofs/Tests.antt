@@ -1,17 +1,17 @@
--- The tests that a call makes one by one: phases, the rows' limit, the words of a row, and the words that opening puts to 0.
+-- The tests that a call makes one by one: phases, the rows' limit, the words of a row.
 -- Assumes nothing.
-use Prim.Native.Nat.{ℕ, zero, suc, _+_, _-_, _<_, _≤_, _^_}
-use mathlib.Core.Path.{_≡_, refl, sym, ap, _∙_}
+use Prim.Native.Nat.{ℕ, suc, _+_, _-_, _<_, _≤_, _^_}
+use mathlib.Core.Path.{_≡_, sym, ap, _∙_}
 use mathlib.Core.Bool.{Bool, false, cond, _&&_}
-use mathlib.Core.List.{List, [], _∷_, _++_}
+use mathlib.Core.List.{List}
 use native.Mathlib.Omega.{arith}
-use native.Mathlib.Nat.{le-of-suc-le-suc, not-suc-le-zero}
 use native.Mathlib.Numerals.{add-one}
 use borrow.Author.Tests.{lt-ltb, le-ltb, le-leb, eq-eqb, ne-eqb}
 use lib.Dec.{ltb, eqb}
-use lib.ListN.{length, getD, set, drop, replicate}
+use lib.ListN.{getD}
 use denote.Enum.Declared.{tagOf}
-use Rattle.plan.specs.PlanFor.{firstBad}
+use Rattle.limits.specs.Limits.{mostRows}
+use Rattle.prepare.specs.PlanFor.{firstBad}
 use Rattle.monitor.proofs.Phase.{the-type}
 use Rattle.monitor.specs.declared.Phase.{Phase}
 use Rattle.monitor.specs.declared.Phase.the-variants.{Reading, Draining, Over}
@@ -46,7 +46,7 @@ all-inputs types ws n = let e : n - 0 ≡ n = omega arith in ap (λ (k : ℕ). f
 module _ (rows done closing : ℕ) (within : rows < 2 ^ 32) where
   in-limit : (p : Phase) → phaseAgrees p rows done closing ≡ recordAgrees p rows done closing
   unfolding recordAgrees
-  in-limit p = let h : rows ≤ 4294967295 = omega arith in rw (le-leb _ _ h)
+  in-limit p = let h : rows ≤ mostRows = omega arith in rw (le-leb _ _ h)
 
   pub agrees-reading : (p : Phase) → tagOf the-type p ≡ 0 → eqb done 0 ≡ recordAgrees p rows done closing
   unfolding phaseAgrees
@@ -110,13 +110,3 @@ module _ (rows closing : ℕ) where
   pub drained-all : closing ≤ rows → Over ≡ drainedPhase rows closing
   unfolding drainedPhase
   drained-all h = rw (le-ltb _ _ h)
-
--- ---- words put to 0
-
-pub cleared-more : (l : List ℕ) (i : ℕ) → i < length l → set (replicate i 0 ++ drop i l) i 0 ≡ replicate (suc i) 0 ++ drop (suc i) l
-cleared-more [] i h = absurd (not-suc-le-zero h)
-cleared-more (x ∷ l) zero h = refl
-cleared-more (x ∷ l) (suc i) h = ap (λ (r : List ℕ). 0 ∷ r) (cleared-more l i (le-of-suc-le-suc h))
-
-pub cleared-step : (l : List ℕ) {m : List ℕ} (i : ℕ) → i < length l → m ≡ replicate i 0 ++ drop i l → set m i 0 ≡ replicate (i + 1) 0 ++ drop (i + 1) l
-cleared-step l i h e = ap (λ (k : List ℕ). set k i 0) e ∙ cleared-more l i h ∙ ap (λ (k : ℕ). replicate k 0 ++ drop k l) (sym (add-one i))

@@ -1,28 +1,28 @@
 -- A turn with its output: what the store holds of the due values after it is what is given, as bytes.
 -- Assumes nothing.
-use Prim.Native.Nat.{ℕ, zero, suc, _-_, _%_, _<_, _≤_}
+use Prim.Native.Nat.{ℕ, zero, suc, _-_, _<_, _≤_}
 use mathlib.Core.Path.{_≡_, refl, sym, ap, _∙_}
 use mathlib.Core.Bool.{Bool, true, false, cond, not, _&&_}
 use mathlib.Core.List.{List, [], _∷_, _++_, map}
 use native.Mathlib.Omega.{arith}
-use native.Mathlib.Nat.{mod-lt}
-use borrow.Author.Tests.{eq-eqb}
 use lib.Dec.{eqb}
 use lib.ListN.{length, getD}
+use Rattle.basis.specs.Firsts.{of}
 use Rattle.value.specs.declared.Value.{Value}
 use Rattle.value.specs.Values.{imageOf}
 use Rattle.table.specs.Table.{Decoded}
-use Rattle.lola.specs.Turn.{due}
-use Rattle.lola.specs.Run as run
-use Rattle.lola.specs.Run.{Given, gather, dueOf, storeAfter, givenOn}
-use Rattle.lola.proofs.Gathers.{gather-cong}
-use Rattle.lola.proofs.Stores.{write-at}
+use Rattle.run.specs.Turn.{due}
+use Rattle.run.specs.Run as run
+use Rattle.basis.specs.Given.{Given}
+use Rattle.run.specs.Run.{gather, dueOf, storeAfter, givenOn}
+use Rattle.run.proofs.Gathers.{gather-cong}
+use Rattle.store.proofs.Layouts.{word-due}
 use Rattle.evaluate.specs.Turns.{Turns}
-use Rattle.output.specs.Encoding.{valueRecord, triggerRecord, recordOf, encode, wordOn, outputOf, Emitted}
-use Rattle.certificate.specs.Certificate.{of}
-use Rattle.plan.specs.PlanFor.{tableIn, tableFor}
-use Rattle.plan.specs.Planning.{Plan, Plans}
-use Rattle.plan.proofs.Held.{roles-held, some-held, held-plan, plan-held, part-held, ready}
+use Rattle.records.specs.Encoding.{valueRecord, triggerRecord, recordOf, encode}
+use Rattle.output.specs.Encoding.{wordOn, outputOf, Emitted}
+use Rattle.prepare.specs.PlanFor.{tableIn, tableFor}
+use Rattle.prepare.specs.Preparing.{Frame, Prepares}
+use Rattle.prepare.proofs.Held.{roles-held, some-held, few-held, held-plan, plan-held, part-held, ready}
 use Rattle.monitor.specs.Turns.{inWords, bytesOn, Turned}
 
 -- the values given, in words
@@ -45,7 +45,7 @@ encode-same rs us h (g ∷ gs) =
     λ i. (valueRecord (g .stream) (g .position) (g .word) ++ cond (eqb (h (g .stream) i) 1 && not (eqb (g .word) 0)) (triggerRecord (g .stream) (g .position)) [])
     ++ encode-same rs us h gs i
 
-module _ {s look kept : List ℕ} {p : Plan} (x : Plans s look kept p) (n t : ℕ) (ws st : List ℕ) (h : p .words ≤ length st) where
+module _ {s look kept : List ℕ} {p : Frame} (x : Prepares s look kept p) (n t : ℕ) (ws st : List ℕ) (h : p .words ≤ length st) where
   abbrev q : run.Plan Value ℕ ℕ
   q = held-plan x
 
@@ -53,10 +53,7 @@ module _ {s look kept : List ℕ} {p : Plan} (x : Plans s look kept p) (n t : �
   word-after : (v : ℕ) → v < p .streams → due (of look) n t v ≡ true → wordOn look kept (storeAfter q n t ws st) t v ≡ imageOf (dueOf q n t ws st v)
   unfolding storeAfter
   word-after v l d =
-      let some : (u : ℕ) → u < p .streams → 0 < of kept u = λ u m. part-held x (length st) h u m .some in
-      let e : eqb ((t - getD look v 0) % getD kept v 0) ((t - getD look v 0) % getD kept v 0) ≡ true = eq-eqb ((t - getD look v 0) % getD kept v 0) ((t - getD look v 0) % getD kept v 0) refl in
-      write-at (of look) (of kept) (p .streams) some n t (λ u. imageOf (dueOf q n t ws st u)) 0 (p .streams) v ((t - getD look v 0) % getD kept v 0) st (omega arith) l (mod-lt (t - getD look v 0) (some v l)) (ready x (length st) h .fits)
-      ∙ rw (d, e)
+      word-due (p .types) kept (p .streams) (few-held x) (λ u m. part-held x (length st) h u m .some) (λ u. t - getD look u 0) (due (of look) n t) (dueOf q n t ws st) v st l d (ready x (length st) h .fits)
 
   roles-same : (v : ℕ) → getD (p .roles) v 0 ≡ getD (tableFor s .roles) v 0
   roles-same v = sym (ap (λ (d : Decoded). getD (tableIn d .roles) v 0) (x .decodes) ∙ roles-held x v)

@@ -1,16 +1,19 @@
 // A run (document 01, "A run"): its record and the calls open, row, close and drain, for every argument.
 // It assumes nothing.
 ghost use mathlib.Core.Path.{_≡_};
-ghost use mathlib.Core.Bool.{true};
-ghost use mathlib.Core.List.{_++_};
-ghost use Prim.Native.Nat.{_+_, _≤_, _<_, _^_};
-ghost use lib.ListN.{length, drop, replicate};
-ghost use Rattle.plan.specs.PlanFor.{firstBad};
-ghost use Rattle.plan.specs.Planning.{planBy, Plans};
-ghost use Rattle.monitor.specs.Turns.{Turned};
-ghost use Rattle.monitor.specs.Refusals.{fault, afterTable, recordAgrees, isReading, isDraining, closeRefusal, rowTests, drainTests};
-ghost use Rattle.monitor.specs.Calls.{refusedWith, zeroRun, closedPhase, drainedPhase, openCall, rowCall, closeCall, drainCall, Leaves, Opens};
-use plan::Sums;
+ghost use Prim.Native.Nat.{_+_, _≤_, _<_};
+ghost use lib.ListN.{length};
+ghost use Rattle.limits.specs.Limits.{mostStreams};
+ghost use Rattle.limits.specs.Refusals.{foreignRecord};
+ghost use Rattle.prepare.specs.PlanFor.{firstBad};
+ghost use Rattle.prepare.specs.Preparing.{frameBy, Prepares};
+ghost use Rattle.monitor.specs.Refusals.{fault, afterTable, recordAgrees, isReading, isDraining};
+ghost use Rattle.monitor.specs.Refusals.{closeRefusal, rowTests, drainTests, turnTests};
+ghost use Rattle.monitor.specs.Turns.{Turned, TurnFits, knownRows, tookWith, Took, Summed};
+ghost use Rattle.monitor.specs.Calls.{runWith, acceptedWith, refusedWith, zeroRun, closedPhase, drainedPhase};
+ghost use Rattle.monitor.specs.Calls.{openCall, rowCall, closeCall, drainCall, Leaves, Opens};
+use limits::STREAMS_MOST;
+use prepare::Prepared;
 
 pub enum Phase {
     Reading,
@@ -20,8 +23,8 @@ pub enum Phase {
 
 // The record: "each stream's look-ahead and kept number (0 past S), the rows taken, the phase and closing turns done".
 pub struct Run {
-    pub look: [u16; 32],
-    pub kept: [u16; 32],
+    pub look: [u16; STREAMS_MOST],
+    pub kept: [u16; STREAMS_MOST],
     pub rows: u32,
     pub phase: Phase,
     pub done: u16,
@@ -41,10 +44,11 @@ pub struct Answer {
     pub count: usize,
 }
 
-fn wide(x: u32) -> u64
-    ensures { λ r. ⌜ (r ≡ x) × (r < 2 ^ 32) ⌝ }
-{
-    x as u64
+// What came of a turn: the first fault, or none, the bytes written and the closing turns announced.
+struct Taken {
+    fault: Fault,
+    count: usize,
+    closing: u16,
 }
 
 fn fault_of(number: u8, place: usize) -> Fault
@@ -56,39 +60,74 @@ fn fault_of(number: u8, place: usize) -> Fault
     }
 }
 
-// "A refusal hands back the record it got [..], writes 0 bytes".
-fn refused(run: Run, number: u8, place: usize) -> Answer
-    ensures { λ r. ⌜ r ≡ refusedWith run (fault number place) ⌝ }
+fn took(fault: Fault, count: usize, closing: u16) -> Taken
+    ensures { λ r. ⌜ r ≡ tookWith fault count closing ⌝ }
+{
+    Taken {
+        fault: fault,
+        count: count,
+        closing: closing,
+    }
+}
+
+fn run_with(
+    look: [u16; STREAMS_MOST],
+    kept: [u16; STREAMS_MOST],
+    rows: u32,
+    phase: Phase,
+    done: u16,
+) -> Run
+    ensures { λ r. ⌜ r ≡ runWith look kept rows phase done ⌝ }
+{
+    Run {
+        look: look,
+        kept: kept,
+        rows: rows,
+        phase: phase,
+        done: done,
+    }
+}
+
+// "An accepted call answers number 0 and place 0."
+fn accepted(run: Run, count: usize) -> Answer
+    ensures { λ r. ⌜ r ≡ acceptedWith run count ⌝ }
 {
     Answer {
         run: run,
-        number: number,
-        place: place,
+        number: limits::ACCEPTED,
+        place: 0,
+        count: count,
+    }
+}
+
+// "A refusal hands back the record it got [..], writes 0 bytes".
+fn refused(run: Run, fault: Fault) -> Answer
+    ensures { λ r. ⌜ r ≡ refusedWith run fault ⌝ }
+{
+    Answer {
+        run: run,
+        number: fault.number,
+        place: fault.place,
         count: 0,
     }
 }
 
 // "the check and opening give an all-zero one, phase reading".
-fn unopened(number: u8, place: usize) -> Answer
-    ensures { λ r. ⌜ r ≡ refusedWith zeroRun (fault number place) ⌝ }
+fn unopened(fault: Fault) -> Answer
+    ensures { λ r. ⌜ r ≡ refusedWith zeroRun fault ⌝ }
 {
-    let run = Run {
-        look: [0u16; 32],
-        kept: [0u16; 32],
-        rows: 0,
-        phase: Phase::Reading,
-        done: 0,
-    };
-    Answer {
-        run: run,
-        number: number,
-        place: place,
-        count: 0,
-    }
+    let run = run_with(
+        [0u16; STREAMS_MOST],
+        [0u16; STREAMS_MOST],
+        0,
+        Phase::Reading,
+        0,
+    );
+    refused(run, fault)
 }
 
 // Whether the rows are within the limit, which is the largest number of their type, and the phase agrees.
-fn agrees(phase: Phase, rows: u32, done: u16, closing: u16) -> bool
+fn record_agrees(phase: Phase, rows: u32, done: u16, closing: u16) -> bool
     ensures { λ r. ⌜ r ≡ recordAgrees phase rows done closing ⌝ }
 {
     match phase {
@@ -123,8 +162,8 @@ fn draining(phase: Phase) -> bool
 }
 
 // The first input flag with a word above 1, or the number of inputs.
-fn first_bad(row: &[u32], types: &[u8; 32], inputs: usize) -> usize
-    requires { ⌜ (inputs ≤ 32) × (inputs ≤ length (now row)) ⌝ }
+fn first_bad(row: &[u32], types: &[u8; STREAMS_MOST], inputs: usize) -> usize
+    requires { ⌜ (inputs ≤ mostStreams) × (inputs ≤ length (now row)) ⌝ }
     ensures { λ r. ⌜ r ≡ firstBad (now (types .entry)) (now (row .entry)) inputs 0 ⌝ }
 {
     let mut i: usize = 0;
@@ -139,13 +178,13 @@ fn first_bad(row: &[u32], types: &[u8; 32], inputs: usize) -> usize
     i
 }
 
-// The fault of a call whose record has not the numbers of an accepted table of these bytes: the table's own, or 10.
+// The fault of a call whose record has not the numbers of an accepted table of these bytes: the table's own, or "not a record of this table".
 pub fn foreign(table: &[u8]) -> Fault
-    ensures { λ r. ⌜ r ≡ afterTable (now (table .entry)) (fault 10 0) ⌝ }
+    ensures { λ r. ⌜ r ≡ afterTable (now (table .entry)) (fault foreignRecord 0) ⌝ }
 {
     let c = announce::check(table);
-    if c.number == 0 {
-        fault_of(10, 0)
+    if c.number == limits::ACCEPTED {
+        fault_of(limits::RECORD, 0)
     } else {
         fault_of(c.number, c.place)
     }
@@ -153,14 +192,14 @@ pub fn foreign(table: &[u8]) -> Fault
 
 // Turn t, where `known` rows are known: the store, then the output; the number of bytes.
 fn turn_out(
-    plan: Sums,
-    look: &[u16; 32],
-    kept: &[u16; 32],
-    types: &[u8; 32],
-    roles: &[u8; 32],
-    starts: &[u16; 32],
-    parts: &[u16; 32],
-    order: &[u8; 32],
+    frame: Prepared,
+    look: &[u16; STREAMS_MOST],
+    kept: &[u16; STREAMS_MOST],
+    types: &[u8; STREAMS_MOST],
+    roles: &[u8; STREAMS_MOST],
+    starts: &[u16; STREAMS_MOST],
+    parts: &[u16; STREAMS_MOST],
+    order: &[u8; STREAMS_MOST],
     table: &[u8],
     store: &mut [u32],
     row: &[u32],
@@ -168,11 +207,13 @@ fn turn_out(
     known: u64,
     t: u64,
 ) -> usize
-    requires { ⌜ Plans (now table) (now look) (now kept) (planBy plan (now types) (now roles) (now starts) (now parts) (now order)) × ((plan .words ≤ length (now store)) × ((plan .room ≤ length (now out)) × ((t + 128 < 2 ^ 64) × ((known < 2 ^ 32) × (t < known → plan .inputs ≤ length (now row)))))) ⌝ }
-    ensures { λ r. ⌜ Turned (now (table .entry)) known t (now (row .entry)) (now (store .entry)) (now (out .entry)) (now (store .exit)) (now (out .exit)) r ⌝ }
+    requires { ⌜ TurnFits (now table) (now look) (now kept) (frameBy frame (now types) (now roles) (now starts) (now parts) (now order))
+        known t (length (now row)) (length (now store)) (length (now out)) ⌝ }
+    ensures { λ r. ⌜ Turned (now (table .entry)) known t (now (row .entry)) (now (store .entry)) (now (out .entry))
+        (now (store .exit)) (now (out .exit)) r ⌝ }
 {
-    let inputs = plan.inputs;
-    let streams = plan.streams;
+    let inputs = frame.inputs;
+    let streams = frame.streams;
     evaluate::turn(
         table,
         store,
@@ -202,18 +243,6 @@ fn turn_out(
     )
 }
 
-// "Opening puts 0 into exactly the announced store words."
-fn clear(store: &mut [u32], words: usize)
-    requires { ⌜ words ≤ length (now store) ⌝ }
-    ensures { λ r. ⌜ now (store .exit) ≡ replicate words 0 ++ drop words (now (store .entry)) ⌝ }
-{
-    let mut word: usize = 0;
-    while word < words {
-        store[word] = 0;
-        word += 1;
-    }
-}
-
 // Opens a run: the check, then the store's announced words put to 0. A refusal hands back an all-zero record.
 pub fn open(table: &[u8], store: &mut [u32]) -> Answer
     ensures { λ r. ⌜ Opens (openCall (now (table .entry)) (now (store .entry))) r (now (store .exit)) ⌝ }
@@ -222,136 +251,20 @@ pub fn open(table: &[u8], store: &mut [u32]) -> Answer
     let number = c.number;
     let place = c.place;
     let words = c.words;
-    if number != 0 {
-        return unopened(number, place);
+    if number != limits::ACCEPTED {
+        return unopened(fault_of(number, place));
     }
     if store.len() < words {
-        return unopened(11, 0);
+        return unopened(fault_of(limits::SHORT_STORE, 0));
     }
-    clear(store, words);
+    store::clear(store, words);
     let look = c.look;
     let kept = c.kept;
-    let run = Run {
-        look: look,
-        kept: kept,
-        rows: 0,
-        phase: Phase::Reading,
-        done: 0,
-    };
-    Answer {
-        run: run,
-        number: 0,
-        place: 0,
-        count: 0,
-    }
+    let run = run_with(look, kept, 0, Phase::Reading, 0);
+    accepted(run, 0)
 }
 
-impl Run {
-    // The refusals 10 to 16, in order.
-    fn row_fault(
-        self,
-        plan: Sums,
-        types: &[u8; 32],
-        lent: usize,
-        row: &[u32],
-        space: usize,
-    ) -> Fault
-        requires { ⌜ plan .inputs ≤ 32 ⌝ }
-        ensures { λ r. ⌜ r ≡ rowTests self plan (now (types .entry)) lent (now (row .entry)) space ⌝ }
-    {
-        let phase = self.phase;
-        if agrees(phase, self.rows, self.done, plan.closing) {
-            let inputs = plan.inputs;
-            if lent < plan.words {
-                return fault_of(11, 0);
-            }
-            if reading(phase) {
-                if 4294967295 <= self.rows {
-                    return fault_of(13, 0);
-                }
-                if row.len() == inputs {
-                    let bad = first_bad(row, types, inputs);
-                    if bad < inputs {
-                        return fault_of(15, bad);
-                    }
-                    if space < plan.room {
-                        return fault_of(16, 0);
-                    }
-                    fault_of(0, 0)
-                } else {
-                    fault_of(14, 0)
-                }
-            } else {
-                fault_of(12, 0)
-            }
-        } else {
-            fault_of(10, 0)
-        }
-    }
-
-    // Takes a row: turn j for the j-th accepted row.
-    pub fn row(self, table: &[u8], store: &mut [u32], row: &[u32], out: &mut [u8]) -> Answer
-        ensures { λ r. ⌜ Leaves (rowCall (now (table .entry)) self (now (row .entry)) (now (store .entry)) (now (out .entry))) r (now (store .exit)) (now (out .exit)) ⌝ }
-    {
-        let look = self.look;
-        let kept = self.kept;
-        let mut types = [0u8; 32];
-        let mut roles = [0u8; 32];
-        let mut starts = [0u16; 32];
-        let mut parts = [0u16; 32];
-        let mut order = [0u8; 32];
-        let plan = plan::plan_of(
-            table,
-            &look,
-            &kept,
-            &mut types,
-            &mut roles,
-            &mut starts,
-            &mut parts,
-            &mut order,
-        );
-        if plan.ok {
-            let f = self.row_fault(plan, &types, store.len(), row, out.len());
-            if f.number == 0 {
-                let t = wide(self.rows);
-                let count = turn_out(
-                    plan,
-                    &look,
-                    &kept,
-                    &types,
-                    &roles,
-                    &starts,
-                    &parts,
-                    &order,
-                    table,
-                    store,
-                    row,
-                    out,
-                    t + 1,
-                    t,
-                );
-                let run = Run {
-                    look: look,
-                    kept: kept,
-                    rows: self.rows + 1,
-                    phase: Phase::Reading,
-                    done: 0,
-                };
-                return Answer {
-                    run: run,
-                    number: 0,
-                    place: 0,
-                    count: count,
-                };
-            }
-            refused(self, f.number, f.place)
-        } else {
-            let f = foreign(table);
-            refused(self, f.number, f.place)
-        }
-    }
-}
-
+// "Closing fixes N; with N = 0 or no closing turns the run is over".
 fn closed_phase(rows: u32, closing: u16) -> Phase
     ensures { λ r. ⌜ r ≡ closedPhase rows closing ⌝ }
 {
@@ -364,6 +277,7 @@ fn closed_phase(rows: u32, closing: u16) -> Phase
     }
 }
 
+// The phase after the closing turn that makes `done` of them.
 fn drained_phase(done: u16, closing: u16) -> Phase
     ensures { λ r. ⌜ r ≡ drainedPhase done closing ⌝ }
 {
@@ -371,6 +285,17 @@ fn drained_phase(done: u16, closing: u16) -> Phase
         Phase::Draining
     } else {
         Phase::Over
+    }
+}
+
+// The rows known in a turn: those taken before, and a row call's own.
+fn known_rows(drains: bool, rows: u32) -> u64
+    ensures { λ r. ⌜ r ≡ knownRows drains rows ⌝ }
+{
+    if drains {
+        wire::word_wide(rows)
+    } else {
+        wire::word_wide(rows) + 1
     }
 }
 
@@ -382,19 +307,254 @@ fn one_more(done: u16, closing: u16) -> u16
 }
 
 impl Run {
-    // The refusals 10 and 12.
+    // "a row with 10 to 16 in order".
+    fn row_fault(
+        self,
+        frame: Prepared,
+        types: &[u8; STREAMS_MOST],
+        lent: usize,
+        row: &[u32],
+        space: usize,
+    ) -> Fault
+        requires { ⌜ frame .inputs ≤ mostStreams ⌝ }
+        ensures { λ r. ⌜ r ≡ rowTests self frame (now (types .entry)) lent (now (row .entry)) space ⌝ }
+    {
+        let phase = self.phase;
+        if record_agrees(phase, self.rows, self.done, frame.closing) {
+            let inputs = frame.inputs;
+            if lent < frame.words {
+                return fault_of(limits::SHORT_STORE, 0);
+            }
+            if reading(phase) {
+                if limits::ROWS_MOST <= self.rows {
+                    return fault_of(limits::ROW_LIMIT, 0);
+                }
+                if row.len() == inputs {
+                    let bad = first_bad(row, types, inputs);
+                    if bad < inputs {
+                        return fault_of(limits::FLAG, bad);
+                    }
+                    if space < frame.room {
+                        return fault_of(limits::SHORT_OUTPUT, 0);
+                    }
+                    fault_of(limits::ACCEPTED, 0)
+                } else {
+                    fault_of(limits::ROW_LENGTH, 0)
+                }
+            } else {
+                fault_of(limits::PHASE, 0)
+            }
+        } else {
+            fault_of(limits::RECORD, 0)
+        }
+    }
+
+    // "draining with 10, 11, 12, 16".
+    fn drain_fault(self, frame: Prepared, lent: usize, space: usize) -> Fault
+        ensures { λ r. ⌜ r ≡ drainTests self frame lent space ⌝ }
+    {
+        let phase = self.phase;
+        if record_agrees(phase, self.rows, self.done, frame.closing) {
+            if lent < frame.words {
+                return fault_of(limits::SHORT_STORE, 0);
+            }
+            if draining(phase) {
+                if space < frame.room {
+                    return fault_of(limits::SHORT_OUTPUT, 0);
+                }
+                fault_of(limits::ACCEPTED, 0)
+            } else {
+                fault_of(limits::PHASE, 0)
+            }
+        } else {
+            fault_of(limits::RECORD, 0)
+        }
+    }
+
+    // The first fault of a turn's call, by its frame: of a closing turn, or of a row.
+    fn turn_fault(
+        self,
+        drains: bool,
+        frame: Prepared,
+        types: &[u8; STREAMS_MOST],
+        lent: usize,
+        row: &[u32],
+        space: usize,
+    ) -> Fault
+        requires { ⌜ frame .inputs ≤ mostStreams ⌝ }
+        ensures { λ r. ⌜ r ≡ turnTests drains self frame (now (types .entry)) lent (now (row .entry)) space ⌝ }
+    {
+        if drains {
+            self.drain_fault(frame, lent, space)
+        } else {
+            self.row_fault(frame, types, lent, row, space)
+        }
+    }
+
+    // A turn by its frame: its tests, then the store and the output.
+    fn turn_by(
+        self,
+        drains: bool,
+        frame: Prepared,
+        types: &[u8; STREAMS_MOST],
+        roles: &[u8; STREAMS_MOST],
+        starts: &[u16; STREAMS_MOST],
+        parts: &[u16; STREAMS_MOST],
+        order: &[u8; STREAMS_MOST],
+        table: &[u8],
+        store: &mut [u32],
+        row: &[u32],
+        out: &mut [u8],
+    ) -> Taken
+        requires { ⌜ Prepares (now table) (self .look) (self .kept) (frameBy frame (now types) (now roles) (now starts) (now parts) (now order)) ⌝ }
+        ensures { λ r. ⌜ Took drains (now (table .entry)) self (now (row .entry)) (now (store .entry)) (now (out .entry))
+            (now (store .exit)) (now (out .exit)) r ⌝ }
+    {
+        let fault = self.turn_fault(drains, frame, types, store.len(), row, out.len());
+        if fault.number != limits::ACCEPTED {
+            return took(fault, 0, 0);
+        }
+        let look = self.look;
+        let kept = self.kept;
+        let known = known_rows(drains, self.rows);
+        let t = wire::word_wide(self.rows) + wire::short_wide(self.done);
+        let count = turn_out(
+            frame,
+            &look,
+            &kept,
+            types,
+            roles,
+            starts,
+            parts,
+            order,
+            table,
+            store,
+            row,
+            out,
+            known,
+            t,
+        );
+        took(fault, count, frame.closing)
+    }
+
+    // The next turn, of a row or, where it drains, a closing one: "Every call tests the table first."
+    fn take_turn(
+        self,
+        drains: bool,
+        table: &[u8],
+        store: &mut [u32],
+        row: &[u32],
+        out: &mut [u8],
+    ) -> Taken
+        ensures { λ r. ⌜ Took drains (now (table .entry)) self (now (row .entry)) (now (store .entry)) (now (out .entry))
+            (now (store .exit)) (now (out .exit)) r ⌝ }
+    {
+        let look = self.look;
+        let kept = self.kept;
+        let mut types = [0u8; STREAMS_MOST];
+        let mut roles = [0u8; STREAMS_MOST];
+        let mut starts = [0u16; STREAMS_MOST];
+        let mut parts = [0u16; STREAMS_MOST];
+        let mut order = [0u8; STREAMS_MOST];
+        let frame = prepare::prepare(
+            table,
+            &look,
+            &kept,
+            &mut types,
+            &mut roles,
+            &mut starts,
+            &mut parts,
+            &mut order,
+        );
+        if frame.ok {
+            self.turn_by(
+                drains,
+                frame,
+                &types,
+                &roles,
+                &starts,
+                &parts,
+                &order,
+                table,
+                store,
+                row,
+                out,
+            )
+        } else {
+            took(foreign(table), 0, 0)
+        }
+    }
+
+    // Takes a row: turn j for the j-th accepted row.
+    pub fn row(self, table: &[u8], store: &mut [u32], row: &[u32], out: &mut [u8]) -> Answer
+        ensures { λ r. ⌜ Leaves (rowCall (now (table .entry)) self (now (row .entry)) (now (store .entry)) (now (out .entry)))
+            r (now (store .exit)) (now (out .exit)) ⌝ }
+    {
+        let turn = self.take_turn(false, table, store, row, out);
+        let fault = turn.fault;
+        if fault.number != limits::ACCEPTED {
+            return refused(self, fault);
+        }
+        let look = self.look;
+        let kept = self.kept;
+        let run = run_with(look, kept, self.rows + 1, Phase::Reading, 0);
+        accepted(run, turn.count)
+    }
+
+    // A closing turn: turns N, N+1 and so on.
+    pub fn drain(self, table: &[u8], store: &mut [u32], out: &mut [u8]) -> Answer
+        ensures { λ r. ⌜ Leaves (drainCall (now (table .entry)) self (now (store .entry)) (now (out .entry)))
+            r (now (store .exit)) (now (out .exit)) ⌝ }
+    {
+        let turn = self.take_turn(true, table, store, &[], out);
+        let fault = turn.fault;
+        if fault.number != limits::ACCEPTED {
+            return refused(self, fault);
+        }
+        let look = self.look;
+        let kept = self.kept;
+        let done = one_more(self.done, turn.closing);
+        let phase = drained_phase(done, turn.closing);
+        let run = run_with(look, kept, self.rows, phase, done);
+        accepted(run, turn.count)
+    }
+
+    // The sums of the frame by the record's numbers, for a call that has no turn.
+    fn sums(self, table: &[u8]) -> Prepared
+        ensures { λ r. ⌜ Summed (now (table .entry)) (self .look) (self .kept) r ⌝ }
+    {
+        let look = self.look;
+        let kept = self.kept;
+        let mut types = [0u8; STREAMS_MOST];
+        let mut roles = [0u8; STREAMS_MOST];
+        let mut starts = [0u16; STREAMS_MOST];
+        let mut parts = [0u16; STREAMS_MOST];
+        let mut order = [0u8; STREAMS_MOST];
+        prepare::prepare(
+            table,
+            &look,
+            &kept,
+            &mut types,
+            &mut roles,
+            &mut starts,
+            &mut parts,
+            &mut order,
+        )
+    }
+
+    // "closing with 10, 12".
     fn close_fault(self, closing: u16) -> Fault
         ensures { λ r. ⌜ r ≡ closeRefusal (recordAgrees (self .phase) (self .rows) (self .done) closing) (self .phase) ⌝ }
     {
         let phase = self.phase;
-        if agrees(phase, self.rows, self.done, closing) {
+        if record_agrees(phase, self.rows, self.done, closing) {
             if reading(phase) {
-                fault_of(0, 0)
+                fault_of(limits::ACCEPTED, 0)
             } else {
-                fault_of(12, 0)
+                fault_of(limits::PHASE, 0)
             }
         } else {
-            fault_of(10, 0)
+            fault_of(limits::RECORD, 0)
         }
     }
 
@@ -402,132 +562,19 @@ impl Run {
     pub fn close(self, table: &[u8]) -> Answer
         ensures { λ r. ⌜ r ≡ closeCall (now (table .entry)) self .answer ⌝ }
     {
-        let look = self.look;
-        let kept = self.kept;
-        let mut types = [0u8; 32];
-        let mut roles = [0u8; 32];
-        let mut starts = [0u16; 32];
-        let mut parts = [0u16; 32];
-        let mut order = [0u8; 32];
-        let plan = plan::plan_of(
-            table,
-            &look,
-            &kept,
-            &mut types,
-            &mut roles,
-            &mut starts,
-            &mut parts,
-            &mut order,
-        );
-        if plan.ok {
-            let f = self.close_fault(plan.closing);
-            if f.number == 0 {
-                let phase = closed_phase(self.rows, plan.closing);
-                let run = Run {
-                    look: look,
-                    kept: kept,
-                    rows: self.rows,
-                    phase: phase,
-                    done: 0,
-                };
-                return Answer {
-                    run: run,
-                    number: 0,
-                    place: 0,
-                    count: 0,
-                };
+        let frame = self.sums(table);
+        if frame.ok {
+            let fault = self.close_fault(frame.closing);
+            if fault.number != limits::ACCEPTED {
+                return refused(self, fault);
             }
-            refused(self, f.number, f.place)
+            let look = self.look;
+            let kept = self.kept;
+            let phase = closed_phase(self.rows, frame.closing);
+            let run = run_with(look, kept, self.rows, phase, 0);
+            accepted(run, 0)
         } else {
-            let f = foreign(table);
-            refused(self, f.number, f.place)
-        }
-    }
-
-    // The refusals 10, 11, 12 and 16, in order.
-    fn drain_fault(self, plan: Sums, lent: usize, space: usize) -> Fault
-        ensures { λ r. ⌜ r ≡ drainTests self plan lent space ⌝ }
-    {
-        let phase = self.phase;
-        if agrees(phase, self.rows, self.done, plan.closing) {
-            if lent < plan.words {
-                return fault_of(11, 0);
-            }
-            if draining(phase) {
-                if space < plan.room {
-                    return fault_of(16, 0);
-                }
-                fault_of(0, 0)
-            } else {
-                fault_of(12, 0)
-            }
-        } else {
-            fault_of(10, 0)
-        }
-    }
-
-    // A closing turn: turns N, N+1 and so on.
-    pub fn drain(self, table: &[u8], store: &mut [u32], out: &mut [u8]) -> Answer
-        ensures { λ r. ⌜ Leaves (drainCall (now (table .entry)) self (now (store .entry)) (now (out .entry))) r (now (store .exit)) (now (out .exit)) ⌝ }
-    {
-        let look = self.look;
-        let kept = self.kept;
-        let mut types = [0u8; 32];
-        let mut roles = [0u8; 32];
-        let mut starts = [0u16; 32];
-        let mut parts = [0u16; 32];
-        let mut order = [0u8; 32];
-        let plan = plan::plan_of(
-            table,
-            &look,
-            &kept,
-            &mut types,
-            &mut roles,
-            &mut starts,
-            &mut parts,
-            &mut order,
-        );
-        if plan.ok {
-            let f = self.drain_fault(plan, store.len(), out.len());
-            if f.number == 0 {
-                let known = wide(self.rows);
-                let t = known + evaluate::wide(self.done);
-                let count = turn_out(
-                    plan,
-                    &look,
-                    &kept,
-                    &types,
-                    &roles,
-                    &starts,
-                    &parts,
-                    &order,
-                    table,
-                    store,
-                    &[],
-                    out,
-                    known,
-                    t,
-                );
-                let done = one_more(self.done, plan.closing);
-                let phase = drained_phase(done, plan.closing);
-                let run = Run {
-                    look: look,
-                    kept: kept,
-                    rows: self.rows,
-                    phase: phase,
-                    done: done,
-                };
-                return Answer {
-                    run: run,
-                    number: 0,
-                    place: 0,
-                    count: count,
-                };
-            }
-            refused(self, f.number, f.place)
-        } else {
-            let f = foreign(table);
-            refused(self, f.number, f.place)
+            refused(self, foreign(table))
         }
     }
 }

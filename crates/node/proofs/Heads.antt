@@ -8,6 +8,7 @@ use borrow.Author.Tests.{eq-eqb, ne-eqb, eqb-false}
 use lib.Dec.{eqb}
 use types.Run.{OneOf}
 use denote.Enum.Declared.{tagOf}
+use Rattle.limits.specs.Refusals.{tooDeep}
 use Rattle.basis.proofs.Tests.{pick-case}
 use Rattle.node.proofs.Node.{the-type}
 use Rattle.node.specs.Head as head
@@ -27,7 +28,7 @@ leaf-head (Operator k) next h = absurd (⊎-elim (λ e. omega arith) (⊎-elim (
 pub faultless : (l : ℕ) (ts : List ℕ) (w : ℕ) (n : Node) → faultAt l ts w n ≡ 0 → (1 ≤ l) × (faultOf ts w n ≡ 0)
 unfolding faultAt
 faultless l ts w n =
-    pick-case (λ (x : ℕ). x ≡ 0 → (1 ≤ l) × (faultOf ts w n ≡ 0)) (eqb l 0) 6 (faultOf ts w n) (λ p h. absurd (omega arith)) (λ p h. (omega (arith, eqb-false l 0 p), h))
+    pick-case (λ (x : ℕ). x ≡ 0 → (1 ≤ l) × (faultOf ts w n ≡ 0)) (eqb l 0) tooDeep (faultOf ts w n) (λ p h. absurd (omega arith)) (λ p h. (omega (arith, eqb-false l 0 p), h))
 
 module _ (l : ℕ) (ts s : List ℕ) (w at : ℕ) where
   pub missing : {why : ℕ} → nodeAt s at ≡ Fault why → headAt l ts s w at ≡ head.Refused why

@@ -1,11 +1,15 @@
 -- One expression node: its decoding, and its faults in their order where a type is wanted: "missing kind byte (2), 3, missing body (2), 6,
 -- 4, 5" (document 01, "The table" and "Refusal numbers"). Assumes nothing.
-use Prim.Native.Nat.{ℕ, zero, suc, _+_, _-_, _*_}
+use Prim.Native.Nat.{ℕ, zero, suc, _+_, _-_, _≤_}
 use mathlib.Core.Bool.{cond}
 use mathlib.Core.List.{List}
+use mathlib.Core.Path.{_≡_}
 use lib.Dec.{ltb, leb, eqb}
 use lib.ListN.{length, getD}
 use lib.IntN.{ℤ, pos, negsuc}
+use Rattle.limits.specs.Limits.{mostStreams}
+use Rattle.limits.specs.Refusals.{missing, wrongKind, wrongField, wrongType, tooDeep}
+use Rattle.wire.specs.Bytes.{wordAt}
 use Rattle.node.specs.declared.Rule.{Rule}
 use Rattle.node.specs.declared.Node.{Node}
 use Rattle.node.specs.declared.Node.the-variants.{Constant, Now, At, Operator}
@@ -14,10 +18,6 @@ use Rattle.node.specs.declared.NodeRead.the-variants.{Fault, Got}
 use Rattle.node.specs.Head.{Head}
 use Rattle.node.specs.Head as head
 use Rattle.node.specs.Kinds.{ruleOf, meant}
-
--- "Numbers are little-endian": the four bytes from a place on
-unfoldable pub wordAt : List ℕ → ℕ → ℕ
-wordAt s at = getD s at 0 + getD s (at + 1) 0 * 256 + getD s (at + 2) 0 * 65536 + getD s (at + 3) 0 * 16777216
 
 -- "signed offset byte k"
 unfoldable pub signedOf : ℕ → ℤ
@@ -33,29 +33,29 @@ nodeOf s k at =
     (cond (eqb k 0x14) (At (getD s at 0) (signedOf (getD s (at + 1) 0)) (wordAt s (at + 2)))
     (Operator k)))))
 
--- the node of the kind k whose body of b bytes starts at a place, with the place behind it; 2 where the body is missing
+-- the node of the kind k whose body of b bytes starts at a place, with the place behind it; `missing` where the body is not there
 abbrev pub wholeAt : List ℕ → (k start b : ℕ) → NodeRead
-wholeAt s k start b = cond (leb (start + b) (length s)) (Got (nodeOf s k start) (start + b)) (Fault 2)
+wholeAt s k start b = cond (leb (start + b) (length s)) (Got (nodeOf s k start) (start + b)) (Fault missing)
 
 -- a record whose kind has the rule r: the kind is allowed, then the body is there
 unfoldable pub nodeBy : List ℕ → ℕ → ℕ → Rule → NodeRead
-nodeBy s at k r = cond (eqb (r .form) 0) (Fault 3) (wholeAt s k (at + 1) (r .body))
+nodeBy s at k r = cond (eqb (r .form) 0) (Fault wrongKind) (wholeAt s k (at + 1) (r .body))
 
 -- the node at a place and the place behind its body, or the number of the fault
 unfoldable pub nodeAt : List ℕ → ℕ → NodeRead
-nodeAt s at = cond (ltb at (length s)) (nodeBy s at (getD s at 0) (ruleOf (getD s at 0))) (Fault 2)
+nodeAt s at = cond (ltb at (length s)) (nodeBy s at (getD s at 0) (ruleOf (getD s at 0))) (Fault missing)
 
--- 5: "node not of the wanted type"
+-- "node not of the wanted type"
 unfoldable pub typeFault : ℕ → ℕ → ℕ
-typeFault t w = cond (eqb t w) 0 5
+typeFault t w = cond (eqb t w) 0 wrongType
 
--- 4: "flag constant or flag default above 1"
+-- "flag constant or flag default above 1"
 unfoldable pub wordFault : ℕ → ℕ → ℕ
-wordFault t x = cond (eqb t 0) (cond (ltb 1 x) 4 0) 0
+wordFault t x = cond (eqb t 0) (cond (ltb 1 x) wrongField 0) 0
 
--- 4: "k = 0"
+-- "k = 0"
 unfoldable pub zeroFault : ℤ → ℕ
-zeroFault (pos zero) = 4
+zeroFault (pos zero) = wrongField
 zeroFault (pos (suc n)) = 0
 zeroFault (negsuc n) = 0
 
@@ -63,17 +63,21 @@ zeroFault (negsuc n) = 0
 unfoldable pub first : ℕ → ℕ → ℕ
 first a b = cond (eqb a 0) b a
 
--- 0, or the number of the fault of a node over streams of the types ts where the type w is wanted; 4 is also "stream not below S"
+-- the types of at most 32 streams, in an array by stream
+abbrev pub Types : ℕ → List ℕ → Type 0
+Types streams types = (streams ≤ mostStreams) × (length types ≡ mostStreams)
+
+-- 0, or the number of the fault of a node over streams of the types ts where the type w is wanted, also "stream not below S"
 unfoldable pub faultOf : List ℕ → ℕ → Node → ℕ
 faultOf ts w (Constant t x) = first (wordFault t x) (typeFault t w)
-faultOf ts w (Now v) = cond (ltb v (length ts)) (typeFault (getD ts v 0) w) 4
+faultOf ts w (Now v) = cond (ltb v (length ts)) (typeFault (getD ts v 0) w) wrongField
 faultOf ts w (At v k d) =
-    cond (ltb v (length ts)) (first (zeroFault k) (first (wordFault (getD ts v 0) d) (typeFault (getD ts v 0) w))) 4
+    cond (ltb v (length ts)) (first (zeroFault k) (first (wordFault (getD ts v 0) d) (typeFault (getD ts v 0) w))) wrongField
 faultOf ts w (Operator k) = typeFault (meant (ruleOf k .result) w) w
 
--- the same with l levels left: 6, "node at level 17", comes before 4 and 5
+-- the same with l levels left: "node at level 17" comes before the others
 unfoldable pub faultAt : ℕ → List ℕ → ℕ → Node → ℕ
-faultAt l ts w node = cond (eqb l 0) 6 (faultOf ts w node)
+faultAt l ts w node = cond (eqb l 0) tooDeep (faultOf ts w node)
 
 -- a node without a fault
 unfoldable pub headOf : Node → ℕ → Head

@@ -1,10 +1,11 @@
 // One record of a table: the constant table of kinds, the expression node that stands at a place, and its faults where a type is
 // wanted (document 01, "The table" and "Refusal numbers").
 ghost use mathlib.Core.Path.{_≡_};
-ghost use Prim.Native.Nat.{ℕ, _+_, _*_, _≤_};
+ghost use Prim.Native.Nat.{_+_, _≤_};
 ghost use lib.ListN.{length, take};
 ghost use Rattle.node.specs.Kinds.{ruleOf, meant};
-ghost use Rattle.node.specs.Node.{wordAt, signedOf, nodeOf, wholeAt, nodeAt, typeFault, wordFault, zeroFault, faultOf, faultAt};
+ghost use Rattle.node.specs.Node.{signedOf, nodeOf, wholeAt, nodeAt, typeFault, wordFault, zeroFault, Types, faultOf, faultAt};
+use limits::STREAMS_MOST;
 
 // What a kind byte fixes. form: 0 no expression node, 1 constant, 2 now, 3 at, 4 operator. A type is 0 flag, 1 word, 2 level, and
 // 3 stands for the wanted type.
@@ -174,33 +175,6 @@ pub fn meant_type(t: u8, wanted: u8) -> u8
     if t == 3 { wanted } else { t }
 }
 
-fn wide(x: u8) -> u32
-    ensures { λ r. ⌜ r ≡ x ⌝ }
-{
-    x as u32
-}
-
-fn size(x: u8) -> usize
-    ensures { λ r. ⌜ r ≡ x ⌝ }
-{
-    x as usize
-}
-
-// The word of four bytes, the lowest first.
-fn word(a: u8, b: u8, c: u8, d: u8) -> u32
-    ensures { λ r. ⌜ r ≡ a + b * 256 + c * 65536 + d * 16777216 ⌝ }
-{
-    a as u32 + b as u32 * 256 + c as u32 * 65536 + d as u32 * 16777216
-}
-
-// The four bytes from `at` on, the lowest first.
-pub fn word_at(table: &[u8], at: usize) -> u32
-    requires { ⌜ at + 4 ≤ length (now table) ⌝ }
-    ensures { λ r. ⌜ r ≡ wordAt (now (table .entry)) at ⌝ }
-{
-    word(table[at], table[at + 1], table[at + 2], table[at + 3])
-}
-
 // A byte read as a signed number.
 pub fn signed_of(b: u8) -> i8
     ensures { λ r. ⌜ r ≡ signedOf b ⌝ }
@@ -236,28 +210,32 @@ pub fn node_of(table: &[u8], kind: u8, at: usize) -> Node
     ensures { λ r. ⌜ r ≡ nodeOf (now (table .entry)) kind at ⌝ }
 {
     if kind == 16 {
-        Node::Constant(0, wide(table[at]))
+        Node::Constant(0, wire::byte_word(table[at]))
     } else if kind == 17 {
-        Node::Constant(1, word_at(table, at))
+        Node::Constant(1, wire::word_at(table, at))
     } else if kind == 18 {
-        Node::Constant(2, word_at(table, at))
+        Node::Constant(2, wire::word_at(table, at))
     } else if kind == 19 {
         Node::Now(table[at])
     } else if kind == 20 {
-        Node::At(table[at], signed_of(table[at + 1]), word_at(table, at + 2))
+        Node::At(
+            table[at],
+            signed_of(table[at + 1]),
+            wire::word_at(table, at + 2),
+        )
     } else {
         Node::Operator(kind)
     }
 }
 
-// The node of the kind `kind` whose body starts at `start`, or 2 where the body is missing.
+// The node of the kind `kind` whose body starts at `start`, or MISSING where the body is missing.
 fn whole_at(table: &[u8], kind: u8, start: usize, body: u8) -> NodeRead
     requires { ⌜ (start ≤ length (now table)) × (body ≡ ruleOf kind .body) ⌝ }
     ensures { λ r. ⌜ r ≡ wholeAt (now (table .entry)) kind start body ⌝ }
 {
-    let length = size(body);
+    let length = wire::byte_size(body);
     if table.len() - start < length {
-        return NodeRead::Fault(2);
+        return NodeRead::Fault(limits::MISSING);
     }
     NodeRead::Got(node_of(table, kind, start), start + length)
 }
@@ -268,14 +246,14 @@ pub fn node_at(table: &[u8], at: usize) -> NodeRead
     ensures { λ r. ⌜ r ≡ nodeAt (now (table .entry)) at ⌝ }
 {
     if table.len() <= at {
-        return NodeRead::Fault(2);
+        return NodeRead::Fault(limits::MISSING);
     }
     let kind = table[at];
     let rule = rule_of(kind);
     let form = rule.form;
     let start = at + 1;
     match form {
-        0 => NodeRead::Fault(3),
+        0 => NodeRead::Fault(limits::KIND),
         1 => whole_at(table, kind, start, rule.body),
         2 => whole_at(table, kind, start, rule.body),
         3 => whole_at(table, kind, start, rule.body),
@@ -286,14 +264,14 @@ pub fn node_at(table: &[u8], at: usize) -> NodeRead
 fn type_fault(t: u8, wanted: u8) -> u8
     ensures { λ r. ⌜ r ≡ typeFault t wanted ⌝ }
 {
-    if t == wanted { 0 } else { 5 }
+    if t == wanted { 0 } else { limits::TYPE }
 }
 
 fn word_fault(t: u8, word: u32) -> u8
     ensures { λ r. ⌜ r ≡ wordFault t word ⌝ }
 {
     if t == 0 {
-        if 1 < word { 4 } else { 0 }
+        if 1 < word { limits::FIELD } else { 0 }
     } else {
         0
     }
@@ -302,12 +280,12 @@ fn word_fault(t: u8, word: u32) -> u8
 fn zero_fault(k: i8) -> u8
     ensures { λ r. ⌜ r ≡ zeroFault k ⌝ }
 {
-    if k == 0 { 4 } else { 0 }
+    if k == 0 { limits::FIELD } else { 0 }
 }
 
 // 0, or the number of the fault of a node where `wanted` is asked.
-fn fault_of(node: Node, types: &[u8; 32], streams: usize, wanted: u8) -> u8
-    requires { ⌜ (streams ≤ 32) × (length (now types) ≡ 32) ⌝ }
+fn fault_of(node: Node, types: &[u8; STREAMS_MOST], streams: usize, wanted: u8) -> u8
+    requires { ⌜ Types streams (now types) ⌝ }
     ensures { λ r. ⌜ r ≡ faultOf (take streams (now (types .entry))) wanted node ⌝ }
 {
     match node {
@@ -316,17 +294,17 @@ fn fault_of(node: Node, types: &[u8; 32], streams: usize, wanted: u8) -> u8
             if no == 0 { type_fault(t, wanted) } else { no }
         }
         Node::Now(v) => {
-            let i = size(v);
+            let i = wire::byte_size(v);
             if i < streams {
                 type_fault(types[i], wanted)
             } else {
-                4
+                limits::FIELD
             }
         }
         Node::At(v, k, word) => {
-            let i = size(v);
+            let i = wire::byte_size(v);
             if streams <= i {
-                return 4;
+                return limits::FIELD;
             }
             let t = types[i];
             let zero = zero_fault(k);
@@ -344,13 +322,19 @@ fn fault_of(node: Node, types: &[u8; 32], streams: usize, wanted: u8) -> u8
     }
 }
 
-// The same with `levels` levels left: 6 comes before 4 and 5.
-pub fn fault_at(node: Node, types: &[u8; 32], streams: usize, wanted: u8, levels: u8) -> u8
-    requires { ⌜ (streams ≤ 32) × (length (now types) ≡ 32) ⌝ }
+// The same with `levels` levels left: LEVEL comes before FIELD and TYPE.
+pub fn fault_at(
+    node: Node,
+    types: &[u8; STREAMS_MOST],
+    streams: usize,
+    wanted: u8,
+    levels: u8,
+) -> u8
+    requires { ⌜ Types streams (now types) ⌝ }
     ensures { λ r. ⌜ r ≡ faultAt levels (take streams (now (types .entry))) wanted node ⌝ }
 {
     if levels == 0 {
-        6
+        limits::LEVEL
     } else {
         fault_of(node, types, streams, wanted)
     }

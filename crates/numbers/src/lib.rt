@@ -3,31 +3,27 @@
 ghost use mathlib.Core.Path.{_≡_};
 ghost use Prim.Native.Nat.{_≤_, _<_};
 ghost use lib.ListN.{getD};
+ghost use Rattle.limits.specs.Limits.{mostStreams};
 ghost use Rattle.basis.specs.Sums.{total, most};
-
-fn size(x: u16) -> usize
-    ensures { λ r. ⌜ (r ≡ x) × (r < 65536) ⌝ }
-{
-    x as usize
-}
+use limits::STREAMS_MOST;
 
 // The sum of the first `s` numbers.
-pub fn sum(numbers: &[u16; 32], s: usize) -> usize
-    requires { ⌜ s ≤ 32 ⌝ }
+pub fn sum(numbers: &[u16; STREAMS_MOST], s: usize) -> usize
+    requires { ⌜ s ≤ mostStreams ⌝ }
     ensures { λ r. ⌜ r ≡ total (λ v. getD (now (numbers .entry)) v 0) s ⌝ }
 {
     let mut words = 0;
     let mut v = 0;
     while v < s {
-        words += size(numbers[v]);
+        words += wire::short_size(numbers[v]);
         v += 1;
     }
     words
 }
 
 // The largest of the first `s` numbers.
-pub fn largest(numbers: &[u16; 32], s: usize) -> u16
-    requires { ⌜ s ≤ 32 ⌝ }
+pub fn largest(numbers: &[u16; STREAMS_MOST], s: usize) -> u16
+    requires { ⌜ s ≤ mostStreams ⌝ }
     ensures { λ r. ⌜ r ≡ most (λ v. getD (now (numbers .entry)) v 0) s ⌝ }
 {
     let mut best = 0;
@@ -41,21 +37,15 @@ pub fn largest(numbers: &[u16; 32], s: usize) -> u16
     best
 }
 
-fn role_size(x: u8) -> usize
-    ensures { λ r. ⌜ (r ≡ x) × (r < 256) ⌝ }
-{
-    x as usize
-}
-
 // How many of the first `s` streams are triggers.
-pub fn triggers(roles: &[u8; 32], s: usize) -> usize
-    requires { ⌜ s ≤ 32 ⌝ }
+pub fn triggers(roles: &[u8; STREAMS_MOST], s: usize) -> usize
+    requires { ⌜ s ≤ mostStreams ⌝ }
     ensures { λ r. ⌜ r ≡ total (λ v. getD (now (roles .entry)) v 0) s ⌝ }
 {
     let mut count = 0;
     let mut v = 0;
     while v < s {
-        count += role_size(roles[v]);
+        count += wire::byte_size(roles[v]);
         v += 1;
     }
     count

@@ -9,23 +9,28 @@ use native.Mathlib.Numerals.{add-one}
 use borrow.Author.Tests.{lt-ltb, le-ltb, le-leb, lt-leb, eq-eqb, ne-eqb}
 use lib.Dec.{eqb}
 use lib.ListN.{length, getD, length-append}
-use Rattle.lola.specs.Turn.{due}
-use Rattle.lola.specs.Run.{Given, gather}
-use Rattle.evaluate.specs.Evaluation.{at0, slotOf}
-use Rattle.output.specs.Encoding.{Emitted, valueRecord, triggerRecord, recordOf, encode, roomFrom, wordOn, bytesOf, outputOf}
+use Rattle.basis.specs.Firsts.{of}
+use Rattle.run.specs.Turn.{due}
+use Rattle.basis.specs.Given.{Given}
+use Rattle.run.specs.Run.{gather}
+use Rattle.store.specs.Store.{wordOf}
+use Rattle.output.specs.Encoding.{Emitted, roomFrom, wordOn, bytesOf, outputOf}
+use Rattle.records.specs.Kinds.{valueSize, triggerSize}
+use Rattle.records.specs.Encoding.{valueRecord, triggerRecord, recordOf, encode}
+use Rattle.records.proofs.Sizes.{value-record-length, trigger-record-length}
 use Rattle.basis.specs.Written.{Wrote}
 use Rattle.basis.proofs.Written.{then, wrote-as}
-use Rattle.output.proofs.Wrotes.{wrote-front, wrote-none, value-record-length, trigger-record-length}
+use Rattle.output.proofs.Wrotes.{wrote-front, wrote-none}
 
-pub room-for-value : (roles : List ℕ) (y : ℕ) → 10 ≤ roomFrom roles 1 y
+pub room-for-value : (roles : List ℕ) (y : ℕ) → valueSize ≤ roomFrom roles 1 y
 unfolding roomFrom
 room-for-value roles y = go (eqb (getD roles y 0) 1)
   where
-    go : (b : Bool) → 10 ≤ 10 + cond b 6 0 + 0
+    go : (b : Bool) → valueSize ≤ valueSize + cond b triggerSize 0 + 0
     go true = omega arith
     go false = omega arith
 
-pub room-for-trigger : (roles : List ℕ) (y : ℕ) → getD roles y 0 ≡ 1 → 16 ≤ roomFrom roles 1 y
+pub room-for-trigger : (roles : List ℕ) (y : ℕ) → getD roles y 0 ≡ 1 → valueSize + triggerSize ≤ roomFrom roles 1 y
 unfolding roomFrom
 room-for-trigger roles y e = rw (eq-eqb _ _ e) (omega arith)
 
@@ -34,7 +39,7 @@ unfolding roomFrom
 room-more roles k y = omega arith
 
 module _ (roles look kept st : List ℕ) (n t y : ℕ) where
-  pub word-of-turn : {a w : ℕ} → a ≡ getD look y 0 → w ≡ getD st (slotOf kept y (t - a)) 0 → w ≡ wordOn look kept st t y
+  pub word-of-turn : {a w : ℕ} → a ≡ getD look y 0 → w ≡ wordOf kept st y (t - a) → w ≡ wordOn look kept st t y
   word-of-turn e f = rw (← e) f
 
   module _ {a : ℕ} (e : a ≡ getD look y 0) where
@@ -46,7 +51,7 @@ module _ (roles look kept st : List ℕ) (n t y : ℕ) where
     unfolding bytesOf
     late-gives-none h k = let g : getD look y 0 ≤ t = omega arith in let f : n + getD look y 0 ≤ t = omega arith in rw (le-leb _ _ g, le-ltb _ _ f)
 
-    module _ (h : a ≤ t) (k : t - a < n) {w : ℕ} (ew : w ≡ getD st (slotOf kept y (t - a)) 0) where
+    module _ (h : a ≤ t) (k : t - a < n) {w : ℕ} (ew : w ≡ wordOf kept st y (t - a)) where
       given : bytesOf roles look kept st n t y ≡ valueRecord y (t - a) w ++ cond (eqb (getD roles y 0) 1 && not (eqb w 0)) (triggerRecord y (t - a)) []
       unfolding bytesOf recordOf
       given =
@@ -70,9 +75,9 @@ module _ (roles look kept st : List ℕ) (n t y : ℕ) where
   -- the bytes fit their room
   bytes-fit-room : length (bytesOf roles look kept st n t y) ≤ roomFrom roles 1 y
   unfolding bytesOf recordOf roomFrom
-  bytes-fit-room = go (due (at0 look) n t y) (eqb (getD roles y 0) 1) (not (eqb (wordOn look kept st t y) 0))
+  bytes-fit-room = go (due (of look) n t y) (eqb (getD roles y 0) 1) (not (eqb (wordOn look kept st t y) 0))
     where
-      go : (d b c : Bool) → length (cond d (valueRecord y (t - getD look y 0) (wordOn look kept st t y) ++ cond (b && c) (triggerRecord y (t - getD look y 0)) []) []) ≤ 10 + cond b 6 0 + 0
+      go : (d b c : Bool) → length (cond d (valueRecord y (t - getD look y 0) (wordOn look kept st t y) ++ cond (b && c) (triggerRecord y (t - getD look y 0)) []) []) ≤ valueSize + cond b triggerSize 0 + 0
       go false b c = omega arith
       go true true true = let e = length-append (valueRecord y (t - getD look y 0) (wordOn look kept st t y)) (triggerRecord y (t - getD look y 0)) in omega (arith, value-record-length y (t - getD look y 0) (wordOn look kept st t y), trigger-record-length y (t - getD look y 0))
       go true true false = let e = length-append (valueRecord y (t - getD look y 0) (wordOn look kept st t y)) [] in omega (arith, value-record-length y (t - getD look y 0) (wordOn look kept st t y))
@@ -81,10 +86,10 @@ module _ (roles look kept st : List ℕ) (n t y : ℕ) where
 module _ (roles look kept st : List ℕ) (n t : ℕ) where
   output-more : (k y : ℕ) → outputOf roles look kept st n t (suc k) y ≡ bytesOf roles look kept st n t y ++ outputOf roles look kept st n t k (suc y)
   unfolding outputOf gather bytesOf encode
-  output-more k y = go (due (at0 look) n t y)
+  output-more k y = go (due (of look) n t y)
     where
       r : List (Given ℕ)
-      r = gather (at0 look) n t (wordOn look kept st t) k (suc y)
+      r = gather (of look) n t (wordOn look kept st t) k (suc y)
 
       g : Given ℕ
       g = record { stream = y; position = t - getD look y 0; word = wordOn look kept st t y }

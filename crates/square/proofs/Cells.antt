@@ -4,17 +4,18 @@ use mathlib.Core.Path.{_≡_, refl, sym, ap, ap₂, _∙_, subst}
 use mathlib.Core.Bool.{Bool, true, false, cond}
 use Prim.Native.Nat.{ℕ, zero, suc, _-_, _^_, _<_, max}
 use native.Mathlib.Omega.{arith}
-use lib.IntN.{ℤ, pos, negsuc, _+ℤ_, _-ℤ_, ℤ-discrete}
+use lib.IntN.{ℤ, pos, negsuc, _+ℤ_, _-ℤ_}
 use lib.Signed.{mag, ltZ, leZ}
 use lib.Dec.{eqb, ltb, leb·zero}
 use borrow.Author.Tests.{ltb-true, ltb-false, le-ltb, ne-eqb}
 use mir.Syntax.{w64}
 use mir.Val.{SFits, toZ, ofZ}
 use mir.Facts.{toZ-ofZ}
+use Rattle.limits.specs.Limits.{riseOfZero}
 use Rattle.basis.proofs.Parts.{mag-sum}
 use Rattle.basis.proofs.Tests.{true-false}
 use Rattle.walks.specs.Longest.{none, some, larger, plus, relaxB, maxZ, below, orMore}
-use Rattle.walks.proofs.Best.{larger-none, plus-none, none-some}
+use Rattle.walks.proofs.Best.{larger-none, plus-none}
 use Rattle.square.specs.Square.{NO, best, Small, riseBest}
 use Rattle.square.proofs.Sizes.{small-mag}
 
@@ -22,23 +23,10 @@ pub best-no : best NO ≡ none
 unfolding best
 best-no = refl
 
-some-one : {a b : ℤ} → some a ≡ some b → a ≡ b
-some-one e = cc
-
 pub best-some : (z : ℤ) → (z ≡ NO → ⊥) → best z ≡ some z
 unfolding best
 best-some (pos n) h = refl
 best-some (negsuc n) h = rw (ne-eqb n 9223372036854775807 (λ e. h (ap negsuc e)))
-
--- a cell is determined by what it says
-pub best-one : (a b : ℤ) → best a ≡ best b → a ≡ b
-best-one a b e = go (ℤ-discrete a NO) (ℤ-discrete b NO)
-  where
-    go : Dec (a ≡ NO) → Dec (b ≡ NO) → a ≡ b
-    go (yes p) (yes q) = p ∙ sym q
-    go (yes p) (no q) = none-some (sym best-no ∙ sym (ap best p) ∙ e ∙ best-some b q)
-    go (no p) (yes q) = none-some (sym best-no ∙ sym (ap best q) ∙ sym e ∙ best-some a p)
-    go (no p) (no q) = some-one (sym (best-some a p) ∙ e ∙ best-some b q)
 
 -- the test against the least number, both ways
 pub is-no : {x : ℤ} → SFits w64 x → ofZ w64 x ≡ 9223372036854775808 → x ≡ NO
@@ -122,17 +110,17 @@ pub rise-none : {x : ℕ} → x ≡ 0 → best NO ≡ riseBest x
 unfolding riseBest
 rise-none e = rw e best-no
 
-weight-small : (x : ℕ) → x < 65536 → mag (pos x -ℤ pos 129) < 2 ^ 62
-weight-small x h = go (ltb x 129) (ltb-true x 129)
+weight-small : (x : ℕ) → x < 65536 → mag (pos x -ℤ pos riseOfZero) < 2 ^ 62
+weight-small x h = go (ltb x riseOfZero) (ltb-true x riseOfZero)
   where
-    go : (b : Bool) → (b ≡ true → x < 129) → mag (cond b (negsuc (129 - suc x)) (pos (x - 129))) < 2 ^ 62
+    go : (b : Bool) → (b ≡ true → x < riseOfZero) → mag (cond b (negsuc (riseOfZero - suc x)) (pos (x - riseOfZero))) < 2 ^ 62
     go true f = let p = f refl in omega arith
     go false f = omega arith
 
-pub weight-fits : (x : ℕ) → x < 65536 → SFits w64 (pos x -ℤ pos 129)
+pub weight-fits : (x : ℕ) → x < 65536 → SFits w64 (pos x -ℤ pos riseOfZero)
 weight-fits x h = let p = weight-small x h in record { sfits = omega arith }
 
-pub rise-some : (x : ℕ) → x < 65536 → (x ≡ 0 → ⊥) → best (pos x -ℤ pos 129) ≡ riseBest x
+pub rise-some : (x : ℕ) → x < 65536 → (x ≡ 0 → ⊥) → best (pos x -ℤ pos riseOfZero) ≡ riseBest x
 unfolding riseBest
 rise-some zero h n = absurd (n refl)
-rise-some (suc x) h n = best-some (pos (suc x) -ℤ pos 129) (not-least (weight-small (suc x) h))
+rise-some (suc x) h n = best-some (pos (suc x) -ℤ pos riseOfZero) (not-least (weight-small (suc x) h))

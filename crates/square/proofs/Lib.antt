@@ -3,5 +3,4 @@ pub mod Cells
 pub mod Rows
 pub mod Tested
 pub mod Weighed
-pub mod Slack
 pub mod Rise

@@ -8,6 +8,7 @@ use native.Mathlib.Nat.{two-pow-succ}
 use lib.Pow.{pow-mono}
 use lib.IntN.{ℤ, _+ℤ_}
 use lib.Signed.{mag}
+use Rattle.limits.specs.Limits.{mostStreams}
 use Rattle.basis.proofs.Parts.{mag-sum}
 use Rattle.walks.specs.Longest.{Best, some, larger, plus, relaxB, through, supTo, back}
 use Rattle.walks.proofs.Best.{max-is}
@@ -45,7 +46,7 @@ unfolding supTo
 small-sup f zero h = small-none
 small-sup f (suc n) h = small-larger (small-sup f n (λ m p. h m (omega arith))) (h n (omega arith))
 
-pub small-back : (S k v : ℕ) (A : ℕ → ℕ → Best) → S ≤ 32 → v < 32 → ((i j : ℕ) → i < 32 → j < 32 → Small k (A i j)) → (n i : ℕ) → i < 32 → Small (k + n) (back S A v n i)
+pub small-back : (S k v : ℕ) (A : ℕ → ℕ → Best) → S ≤ mostStreams → v < mostStreams → ((i j : ℕ) → i < mostStreams → j < mostStreams → Small k (A i j)) → (n i : ℕ) → i < mostStreams → Small (k + n) (back S A v n i)
 unfolding back
 small-back S k v A q p h zero i r = small-more (omega arith) (h i v r p)
 small-back S k v A q p h (suc n) i r = small-more {n = suc (k + n)} (omega arith) (small-sup (λ m. plus (A i m) (back S A v n m)) S

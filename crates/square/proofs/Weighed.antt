@@ -1,31 +1,29 @@
--- What `weighed` announces of a square: it asks the cells below S only, its look-aheads fit, and of the square of a list of edges it is what
--- `Walks` says (document 01, "What the check announces", and refusal 7). Assumes nothing.
+-- What `weighed` announces of a square: it asks the cells below S only, and its look-aheads fit (document 01, "What the check announces",
+-- and refusal 7). Assumes nothing.
 use mathlib.Core.Path.{_≡_, refl, sym, ap, _∙_, subst}
 use mathlib.Core.Bool.{Bool, true, false, _&&_, cond}
-use mathlib.Core.List.{List}
 use Prim.Native.Nat.{ℕ, _^_, _≤_, _<_}
 use native.Mathlib.Omega.{arith}
 use borrow.Author.Tests.{lt-ltb, ltb-true}
 use lib.Dec.{ltb}
 use lib.ListN.{getD, getD-replicate}
 use lib.IntN.{ℤ}
+use Rattle.limits.specs.Limits.{mostStreams, mostAhead, mostLook}
 use Rattle.basis.specs.Parts.{up}
-use Rattle.basis.specs.Edges.{Edge, among}
 use Rattle.basis.proofs.Parts.{mag-parts}
 use Rattle.basis.proofs.Tests.{and-true, true-and, pick-case}
-use Rattle.walks.specs.Walks.{Within, LoopsBelow, LookAhead, PlaceOfLoop, Right}
-use Rattle.walks.specs.Longest.{Best, none, some, edgesOf, squareOf, through, loopsBelow, lookTo, lookOf, placeOf, keptOf}
+use Rattle.walks.specs.Walks.{Within, LookAhead}
+use Rattle.walks.specs.Longest.{Best, none, some, edgesOf, through, loopsBelow, lookTo, lookOf, placeOf}
 use Rattle.walks.proofs.Best.{Largest, covers-self, none-some}
 use Rattle.walks.proofs.LookAhead.{look-ahead, look-same}
 use Rattle.walks.proofs.Schedule.{schedule-of}
 use Rattle.walks.proofs.Bound.{look-small}
 use Rattle.walks.proofs.Same.{loops-same, look-of-same, through-same, place-same}
-use Rattle.walks.proofs.Announced.{accepted-loops, accepted-look, refused-place, right-accepted}
-use Rattle.walks.proofs.Kept.{kept-is}
-use Rattle.square.specs.Square.{Small, firsts, acceptedWith, refusedAt, weighed}
+use Rattle.basis.specs.Firsts.{firsts}
+use Rattle.square.specs.Square.{Small, acceptedWith, refusedAt, weighed}
 use Rattle.square.specs.declared.Verdict.{Verdict}
 use Rattle.square.proofs.Sizes.{small-mag}
-use Rattle.square.proofs.Rows.{firsts-same, getD-firsts}
+use Rattle.basis.proofs.Firsts.{firsts-same, getD-firsts}
 
 -- ---- look-aheads fit
 
@@ -49,9 +47,9 @@ edges-largest : (A : ℕ → ℕ → Best) (i j : ℕ) → Largest (edgesOf A i 
 edges-largest A i j = record { all = λ k e. covers-self e; real = λ k e. e }
 
 -- for at most 32 streams and weights from -128 to 127
-module _ (S : ℕ) (A : ℕ → ℕ → Best) (few : S ≤ 32) (small : (i j : ℕ) → i < 32 → j < 32 → Small 7 (A i j)) where
-  pub look-fits : loopsBelow (through A S) S ≡ true → (v : ℕ) → v < S → lookTo (through A S v) S ≤ 3937
-  look-fits neg v l = subst (λ (n : ℕ). n ≤ 3937) (sym (look-same (through A S v) (through B S v) S (λ m p. relaxed v m l p)))
+module _ (S : ℕ) (A : ℕ → ℕ → Best) (few : S ≤ mostStreams) (small : (i j : ℕ) → i < mostStreams → j < mostStreams → Small 7 (A i j)) where
+  pub look-fits : loopsBelow (through A S) S ≡ true → (v : ℕ) → v < S → lookTo (through A S v) S ≤ mostLook
+  look-fits neg v l = subst (λ (n : ℕ). n ≤ mostLook) (sym (look-same (through A S v) (through B S v) S (λ m p. relaxed v m l p)))
       (look-small ends ahead (schedule-of B (edges-largest B) ends ahead neg-B) high few v l)
     where
       B : ℕ → ℕ → Best
@@ -69,37 +67,37 @@ module _ (S : ℕ) (A : ℕ → ℕ → Best) (few : S ≤ 32) (small : (i j : �
       ahead : (v : ℕ) → v < S → LookAhead (edgesOf B) v (lookTo (through B S v) S)
       ahead v l = look-ahead (edgesOf B) S B (edges-largest B) ends neg-B v
 
-      high : (y v : ℕ) (k : ℤ) → B y v ≡ some k → up k ≤ 127
+      high : (y v : ℕ) (k : ℤ) → B y v ≡ some k → up k ≤ mostAhead
       high y v k e = let q = ends y v k e in let w = mag-parts k (2 ^ 7) (small-mag (subst (Small 7) (inside-is S A y v (q .0) (q .1) ∙ e) (small y v (omega arith) (omega arith)))) in omega arith
 
-  look-of-fits : loopsBelow (through A S) S ≡ true → (v : ℕ) → lookOf (through A S) S v ≤ 3937
+  look-of-fits : loopsBelow (through A S) S ≡ true → (v : ℕ) → lookOf (through A S) S v ≤ mostLook
   unfolding lookOf
-  look-of-fits neg v = pick-case (λ (n : ℕ). n ≤ 3937) (ltb v S) (lookTo (through A S v) S) 0 (λ e. look-fits neg v (ltb-true v S e)) (λ e. omega arith)
+  look-of-fits neg v = pick-case (λ (n : ℕ). n ≤ mostLook) (ltb v S) (lookTo (through A S v) S) 0 (λ e. look-fits neg v (ltb-true v S e)) (λ e. omega arith)
 
   -- what is announced, accepted or not
-  pub weighed-look-small : (v : ℕ) → v < 32 → getD (weighed A S .look) v 0 ≤ 3937
+  pub weighed-look-small : (v : ℕ) → v < mostStreams → getD (weighed A S .look) v 0 ≤ mostLook
   unfolding weighed
   weighed-look-small v h = go (loopsBelow (through A S) S) (λ e. look-of-fits e v)
     where
-      go : (b : Bool) → (b ≡ true → lookOf (through A S) S v ≤ 3937) → getD (cond {A = Verdict} b (acceptedWith (firsts (lookOf (through A S) S) 32)) (refusedAt (placeOf A S)) .look) v 0 ≤ 3937
-      go true f = rw (getD-firsts (lookOf (through A S) S) 32 v 0 h) (f refl)
-      go false f = rw (getD-replicate {A = ℕ} 32 v 0 0 h) (omega arith)
+      go : (b : Bool) → (b ≡ true → lookOf (through A S) S v ≤ mostLook) → getD (cond {A = Verdict} b (acceptedWith (firsts (lookOf (through A S) S) mostStreams)) (refusedAt (placeOf A S)) .look) v 0 ≤ mostLook
+      go true f = rw (getD-firsts (lookOf (through A S) S) mostStreams v 0 h) (f refl)
+      go false f = rw (getD-replicate {A = ℕ} mostStreams v 0 0 h) (omega arith)
 
 -- ---- by the relaxed square D, which is known cell by cell
 
-module _ (S : ℕ) (A D : ℕ → ℕ → Best) (few : S ≤ 32) (relaxed : (i j : ℕ) → i < 32 → j < 32 → D i j ≡ through A S i j) where
+module _ (S : ℕ) (A D : ℕ → ℕ → Best) (few : S ≤ mostStreams) (relaxed : (i j : ℕ) → i < mostStreams → j < mostStreams → D i j ≡ through A S i j) where
   below-S : (i j : ℕ) → i < S → j < S → D i j ≡ through A S i j
   below-S i j h g = relaxed i j (omega arith) (omega arith)
 
   test-same : {b : Bool} → loopsBelow D S ≡ b → loopsBelow (through A S) S ≡ b
   test-same e = sym (loops-same S D (through A S) below-S) ∙ e
 
-  pub relaxed-fits : ((i j : ℕ) → i < 32 → j < 32 → Small 7 (A i j)) → loopsBelow D S ≡ true → (v : ℕ) → v < S → lookTo (D v) S < 65536
+  pub relaxed-fits : ((i j : ℕ) → i < mostStreams → j < mostStreams → Small 7 (A i j)) → loopsBelow D S ≡ true → (v : ℕ) → v < S → lookTo (D v) S < 65536
   relaxed-fits small e v h = let b = look-fits S A few small (test-same e) v h in omega (arith, look-same (D v) (through A S v) S (λ m p. below-S v m h p))
 
-  pub weighed-true : loopsBelow D S ≡ true → acceptedWith (firsts (lookOf D S) 32) ≡ weighed A S
+  pub weighed-true : loopsBelow D S ≡ true → acceptedWith (firsts (lookOf D S) mostStreams) ≡ weighed A S
   unfolding weighed
-  weighed-true e = ap acceptedWith (firsts-same (lookOf D S) (lookOf (through A S) S) 32 (λ v h. look-of-same S D (through A S) below-S v)) ∙ sym (rw (test-same e))
+  weighed-true e = ap acceptedWith (firsts-same (lookOf D S) (lookOf (through A S) S) mostStreams (λ v h. look-of-same S D (through A S) below-S v)) ∙ sym (rw (test-same e))
 
   pub weighed-false : loopsBelow D S ≡ false → refusedAt (placeOf A S) ≡ weighed A S
   unfolding weighed
@@ -108,41 +106,7 @@ module _ (S : ℕ) (A D : ℕ → ℕ → Best) (few : S ≤ 32) (relaxed : (i j
 -- two squares that agree below S
 pub weighed-same : (S : ℕ) (A B : ℕ → ℕ → Best) → ((i j : ℕ) → i < S → j < S → A i j ≡ B i j) → weighed A S ≡ weighed B S
 unfolding weighed
-weighed-same S A B same = rw (loops-same S (through A S) (through B S) relaxed, firsts-same (lookOf (through A S) S) (lookOf (through B S) S) 32 (λ v h. look-of-same S (through A S) (through B S) relaxed v), place-same S A B same)
+weighed-same S A B same = rw (loops-same S (through A S) (through B S) relaxed, firsts-same (lookOf (through A S) S) (lookOf (through B S) S) mostStreams (λ v h. look-of-same S (through A S) (through B S) relaxed v), place-same S A B same)
   where
     relaxed : (i j : ℕ) → i < S → j < S → through A S i j ≡ through B S i j
     relaxed = through-same S A B same S (omega arith)
-
--- ---- a list of edges
-
-chosen-ok : (b : Bool) (x y : Verdict) → x .ok ≡ true → y .ok ≡ false → cond {A = Verdict} b x y .ok ≡ b
-chosen-ok true x y p q = p
-chosen-ok false x y p q = q
-
-module _ (es : List Edge) (S : ℕ) (ends : Within (among es) S) where
-  weighed-ok : weighed (squareOf es) S .ok ≡ loopsBelow (through (squareOf es) S) S
-  unfolding weighed
-  weighed-ok = chosen-ok (loopsBelow (through (squareOf es) S) S) _ _ refl refl
-
-  -- accepted: every loop is below 0, and the look-aheads are right
-  pub weighed-accepted : weighed (squareOf es) S .ok ≡ true → LoopsBelow (among es) × (weighed (squareOf es) S .place ≡ 0) × (weighed (squareOf es) S .look ≡ firsts (lookOf (through (squareOf es) S) S) 32)
-  unfolding weighed
-  weighed-accepted h = let e = sym weighed-ok ∙ h in (accepted-loops es S ends e, rw e, rw e)
-
-  -- refused: the place is refusal 7's
-  pub weighed-refused : weighed (squareOf es) S .ok ≡ false → PlaceOfLoop (among es) S (weighed (squareOf es) S .place)
-  unfolding weighed
-  weighed-refused h = let e = sym weighed-ok ∙ h in rw e (refused-place es S ends e)
-
-  -- the look-aheads that are announced
-  pub weighed-look : S ≤ 32 → weighed (squareOf es) S .ok ≡ true → (v : ℕ) → v < S → LookAhead (among es) v (getD (weighed (squareOf es) S .look) v 0)
-  weighed-look few h v l =
-      rw (weighed-accepted h .2, getD-firsts (lookOf (through (squareOf es) S) S) 32 v 0 (omega arith)) (accepted-look es S ends (sym weighed-ok ∙ h) v l)
-
-  -- the announced numbers, whole
-  pub weighed-right : S ≤ 32 → weighed (squareOf es) S .ok ≡ true → Right (among es) S (λ v. getD (weighed (squareOf es) S .look) v 0) (keptOf es (λ v. getD (weighed (squareOf es) S .look) v 0))
-  weighed-right few h = record { below = weighed-accepted h .0; ahead = weighed-look few h; keeps = λ v l. kept-is (λ v. getD (weighed (squareOf es) S .look) v 0) v es }
-
-  -- and wherever numbers are right the table is accepted
-  pub right-weighed : {look kept : ℕ → ℕ} → Right (among es) S look kept → weighed (squareOf es) S .ok ≡ true
-  right-weighed r = weighed-ok ∙ right-accepted es S ends r

@@ -8,6 +8,8 @@ use native.Mathlib.Omega.{arith}
 use borrow.Author.Tests.{eq-eqb, ne-eqb}
 use lib.ListN.{length, getD, take, replicate}
 use lib.Seq.{take-append-seam}
+use Rattle.limits.specs.Limits.{mostStreams}
+use Rattle.limits.specs.Refusals.{bytesAfter}
 use Rattle.table.proofs.Streams.{HeadsFit, Headed, heads-fit}
 use Rattle.table.proofs.Equations.{EquationsSound, equations-sound}
 use Rattle.table.specs.declared.Heading.{Heading}
@@ -18,7 +20,7 @@ use Rattle.table.specs.Records.{Declared, declares, wrong, heads}
 use Rattle.table.specs.Table.{Equation, Equations, equated, unfit, equationsAt, Table, Decoded, decoded, refused, tableOf, decode}
 use Rattle.table.proofs.Sound.{refusal-number}
 use Rattle.table.specs.Sound.{TableRefusal}
-use Rattle.table.specs.Answers.{numberOf, placeOf, padded, headedOf, headingOf, startsOf, solvedOf, scanOf}
+use Rattle.table.specs.Answers.{numberOf, padded, headedOf, headingOf, startsOf, solvedOf, scanOf}
 
 -- a heading without a fault, and what it says of the table s
 pub record Opens (s : List ℕ) (h : Heading) : Type 0 where
@@ -60,14 +62,14 @@ module _ {s : List ℕ} {h : Heading} (o : Opens s h) where
 
   pub opened-types : take (h .streams) (h .types) ≡ o .types
   unfolding headedOf
-  opened-types = ap (λ (h : Heading). take (h .streams) (h .types)) (o .heading-is) ∙ take-append-seam (o .types) (replicate (32 - length (o .types)) 0)
+  opened-types = ap (λ (h : Heading). take (h .streams) (h .types)) (o .heading-is) ∙ take-append-seam (o .types) (replicate (mostStreams - length (o .types)) 0)
 
   pub opened-place : h .place ≡ o .place
   unfolding headedOf
   opened-place = ap (λ (h : Heading). h .place) (o .heading-is)
 
   -- "I and O at least 1; S at most 32"
-  pub opened-few : (1 ≤ h .inputs) × ((h .inputs < h .streams) × (h .streams ≤ 32))
+  pub opened-few : (1 ≤ h .inputs) × ((h .inputs < h .streams) × (h .streams ≤ mostStreams))
   opened-few = omega (arith, opened-inputs, opened-streams, o .fits .streams .types-are, o .fits .head .some-input, o .fits .head .some-output, o .fits .head .few)
 
   -- the equations behind the heading
@@ -81,7 +83,7 @@ module _ {s : List ℕ} {h : Heading} (o : Opens s h) where
   unfolding decode tableOf
   decode-unfit e = rw (o .heads-are, sym behind-is ∙ e)
 
-  pub decode-more : {qs : List Equation} {e : ℕ} → behind-heading ≡ equated qs e → (e ≡ length s → ⊥) → decode s ≡ refused 9 e
+  pub decode-more : {qs : List Equation} {e : ℕ} → behind-heading ≡ equated qs e → (e ≡ length s → ⊥) → decode s ≡ refused bytesAfter e
   unfolding decode tableOf
   decode-more q z = rw (o .heads-are, sym behind-is ∙ q, ne-eqb _ _ z)
 
@@ -115,7 +117,7 @@ module _ {s : List ℕ} {h : Heading} (o : Opens s h) {q : Solved} (p : q ≡ so
   pub scan-unfit : (q .number ≡ 0 → ⊥) → scanOf (refused (q .number) (q .place)) ≡ scanOf (decode s)
   scan-unfit z = ap scanOf (sym (decode-unfit o (solved-unfit (replicate (h .inputs) 0) (behind-heading o) p z)))
 
-  pub scan-more : q .number ≡ 0 → (q .place ≡ length s → ⊥) → scanOf (refused 9 (q .place)) ≡ scanOf (decode s)
+  pub scan-more : q .number ≡ 0 → (q .place ≡ length s → ⊥) → scanOf (refused bytesAfter (q .place)) ≡ scanOf (decode s)
   scan-more z g = ap scanOf (sym (decode-more o (equated-behind z .are) g))
 
   pub scan-accepted : q .number ≡ 0 → q .place ≡ length s
@@ -155,10 +157,6 @@ module _ (s : List ℕ) {r : Scan} (p : r ≡ scanOf (decode s)) where
   pub scan-accepts : numberOf (r .outcome) ≡ 0 → Accepts s r
   scan-accepts = accepts-by (decode s) refl p
 
-  refuses-by : (d : Decoded) → decode s ≡ d → r ≡ scanOf d → (numberOf (r .outcome) ≡ 0 → ⊥) → decode s ≡ refused (numberOf (r .outcome)) (placeOf (r .outcome))
-  unfolding scanOf numberOf placeOf
-  refuses-by (decoded t) e q z = absurd (z (ap (λ (r : Scan). numberOf (r .outcome)) q))
-  refuses-by (refused why place) e q z = e ∙ rw q
-
-  pub scan-refuses : (numberOf (r .outcome) ≡ 0 → ⊥) → decode s ≡ refused (numberOf (r .outcome)) (placeOf (r .outcome))
-  scan-refuses = refuses-by (decode s) refl p
+-- bytes decode to one table
+pub same-table : {t u : Table} → decoded t ≡ decoded u → t ≡ u
+same-table e = cc

@@ -2,15 +2,15 @@
 -- Assumes nothing.
 use Prim.Native.Nat.{ℕ, zero, suc, _+_, _-_, _≤_, _<_}
 use native.Mathlib.Omega.{arith}
-use mathlib.Core.Path.{_≡_, refl, sym, subst}
+use mathlib.Core.Path.{_≡_, sym, subst}
 use mathlib.Core.Logic.{⊎-elim}
 use mathlib.Core.List.{List, [], _∷_, _++_}
 use lib.IntN.{ℤ}
 use lib.ListN.{length, getD}
-use Rattle.basis.specs.Edges.{Edge, Has, here, later}
+use Rattle.basis.specs.Edges.{Has, here}
 use Rattle.basis.proofs.Edges.{has-before, has-after, has-either}
 use Rattle.node.specs.declared.Node.{Node}
-use Rattle.node.specs.declared.Node.the-variants.{Constant, Now, At, Operator}
+use Rattle.node.specs.declared.Node.the-variants.{Constant, Now, At}
 use Rattle.expression.specs.Syntax.{Expr, leaf, unary, binary, ternary}
 use Rattle.expression.specs.References.{nodeReferences, references}
 use Rattle.table.specs.Table.{Equation, Table, streams, equationOf, edgesFrom, edges}

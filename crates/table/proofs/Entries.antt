@@ -1,15 +1,16 @@
 -- The entries of the scan's arrays: those of a list, 0 past its end, and where the expression of each output starts.
 -- Assumes nothing.
-use Prim.Native.Nat.{ℕ, zero, suc, _+_, _-_, _≤_, _<_}
+use Prim.Native.Nat.{ℕ, zero, suc, _+_, _-_, _≤_}
 use native.Mathlib.Omega.{arith}
 use mathlib.Core.Path.{_≡_, refl, sym, ap, _∙_}
 use mathlib.Core.List.{List, [], _∷_, _++_}
 use lib.ListN.{length, getD, take, replicate, length-replicate}
 use lib.Seq.{take-append-seam, getD-append-add}
+use Rattle.limits.specs.Limits.{mostStreams}
 use Rattle.node.specs.declared.Node.the-variants.{Constant}
 use Rattle.node.proofs.Tabulated.{same-at}
 use Rattle.expression.specs.Syntax.{leaf}
-use Rattle.table.specs.Table.{Equation, Table, streams, equationOf}
+use Rattle.table.specs.Table.{Equation, Table, equationOf}
 use Rattle.table.specs.Answers.{padded, startsOf}
 
 past-end : (l : List ℕ) (n v : ℕ) → getD (l ++ replicate n 0) v 0 ≡ getD l v 0
@@ -18,10 +19,10 @@ past-end (x ∷ l) n zero = refl
 past-end (x ∷ l) n (suc v) = past-end l n v
 
 pub padded-at : (l : List ℕ) (v : ℕ) → getD (padded l) v 0 ≡ getD l v 0
-padded-at l v = past-end l (32 - length l) v
+padded-at l v = past-end l (mostStreams - length l) v
 
 pub padded-take : (l : List ℕ) → take (length l) (padded l) ≡ l
-padded-take l = take-append-seam l (replicate (32 - length l) 0)
+padded-take l = take-append-seam l (replicate (mostStreams - length l) 0)
 
 starts-at : (qs : List Equation) (d : Equation) → d .start ≡ 0 → (i : ℕ) → getD (startsOf qs) i 0 ≡ getD qs i d .start
 unfolding startsOf

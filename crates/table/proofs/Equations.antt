@@ -10,6 +10,7 @@ use borrow.Author.Tests.{eqb-true, eqb-false}
 use lib.Dec.{eqb}
 use lib.ListN.{length, getD, take, set, replicate}
 use lib.Seq.{take-suc-set}
+use Rattle.limits.specs.Limits.{mostStreams, mostLevels}
 use Rattle.expression.specs.declared.Scanned.{Scanned}
 use Rattle.expression.specs.declared.Scanned.the-variants.{Ends, Refused}
 use Rattle.expression.specs.Syntax.{Expr}
@@ -23,27 +24,28 @@ use Rattle.table.proofs.Streams.{fine-case}
 use Rattle.table.specs.Records.{equationFault}
 use Rattle.table.specs.Table.{Equation, Equations, equated, unfit, joined, withExpr, equationAt, equationsAt}
 use Rattle.table.specs.Answers.{padded, startsOf, solvedOf}
+use Rattle.table.specs.Sound.{RecordRefusal}
 
 -- what holds of an equation that is read: its expression starts in the table, behind its record
 pub record EquationFits (ts s : List ℕ) (y : ℕ) (q : Equation) : Type 0 where
   pub end : ℕ
-  pub parsed : parse 16 ts s (getD ts y 0) (q .start) ≡ good (q .expr) end
+  pub parsed : parse mostLevels ts s (getD ts y 0) (q .start) ≡ good (q .expr) end
   pub starts : q .start ≤ length s
 
 abbrev EquationSound : List ℕ → List ℕ → ℕ → ℕ → Parsed → Type 0
 EquationSound ts s y at (good e m) = EquationFits ts s y (record { start = at + 2; expr = e })
-EquationSound ts s y at (bad why place) = (1 ≤ why) × (why ≤ 6)
+EquationSound ts s y at (bad why place) = RecordRefusal why
 
 equation-sound : (ts s : List ℕ) (y at : ℕ) → EquationSound ts s y at (equationAt ts s y at)
 unfolding equationAt
 equation-sound ts s y at =
     fine-case (EquationSound ts s y at) (eqb (equationFault s at y) 0) _ _
-    (λ p. go (equation-room s at y (eqb-true _ _ p)) (parse 16 ts s (getD ts y 0) (at + 2)) refl)
+    (λ p. go (equation-room s at y (eqb-true _ _ p)) (parse mostLevels ts s (getD ts y 0) (at + 2)) refl)
     (λ p. (pos-of-ne-zero (eqb-false _ _ p), equation-low s at y))
   where
-    go : at + 2 ≤ length s → (x : Parsed) → parse 16 ts s (getD ts y 0) (at + 2) ≡ x → EquationSound ts s y at x
+    go : at + 2 ≤ length s → (x : Parsed) → parse mostLevels ts s (getD ts y 0) (at + 2) ≡ x → EquationSound ts s y at x
     go h (good e m) q = record { end = m; parsed = q; starts = h }
-    go h (bad why place) q = omega (arith, bad-blamed ts s 16 (getD ts y 0) (at + 2) q .number)
+    go h (bad why place) q = omega (arith, bad-blamed ts s mostLevels (getD ts y 0) (at + 2) q .number)
 
 -- the equations from that of the stream y on
 pub data EquationsFit (ts s : List ℕ) : ℕ → List Equation → Type 0 where
@@ -52,7 +54,7 @@ pub data EquationsFit (ts s : List ℕ) : ℕ → List Equation → Type 0 where
 
 abbrev pub EquationsSound : List ℕ → List ℕ → ℕ → ℕ → Equations → Type 0
 EquationsSound ts s n y (equated qs m) = (length qs ≡ n) × EquationsFit ts s y qs
-EquationsSound ts s n y (unfit why place) = (1 ≤ why) × (why ≤ 6)
+EquationsSound ts s n y (unfit why place) = RecordRefusal why
 
 module _ (ts s : List ℕ) (n y at : ℕ) where
   one-more : {q : Equation} → EquationFits ts s y q → (d : Equations) → EquationsSound ts s n (y + 1) d → EquationsSound ts s (suc n) y (joined q d)
@@ -75,8 +77,8 @@ solved-joined l q (equated qs n) = ap (λ (m : List ℕ). record { number = 0; p
 solved-joined l q (unfit why place) = refl
 
 -- no equation is read yet
-pub equations-first : (from : ℕ) (q : Equations) → from ≤ 32 → solvedOf (take from (replicate 32 0)) q ≡ solvedOf (replicate from 0) q
-equations-first from q h = ap (λ (l : List ℕ). solvedOf l q) (zeros-front from 32 h)
+pub equations-first : (from : ℕ) (q : Equations) → from ≤ mostStreams → solvedOf (take from (replicate mostStreams 0)) q ≡ solvedOf (replicate from 0) q
+equations-first from q h = ap (λ (l : List ℕ). solvedOf l q) (zeros-front from mostStreams h)
 
 -- what is left of the equations of the streams below n at the stream y
 module _ (ts s : List ℕ) (at y n : ℕ) where
@@ -97,7 +99,7 @@ module _ (ts s : List ℕ) (at y n : ℕ) where
   equations-end l h = rw (no-equation h, append-nil l)
 
   module _ {o : Scanned} {rise fall rise′ fall′ : List ℕ} (h : y < n) (x : Scans (equationAt ts s y at) rise fall rise′ fall′ o) where
-    pub equations-wrong : (l : List ℕ) {why place : ℕ} → o ≡ Refused why place → solvedOf l (equationsAt (n - y) y ts s at) ≡ record { number = why; place = place; starts = replicate 32 0 }
+    pub equations-wrong : (l : List ℕ) {why place : ℕ} → o ≡ Refused why place → solvedOf l (equationsAt (n - y) y ts s at) ≡ record { number = why; place = place; starts = replicate mostStreams 0 }
     unfolding solvedOf
     equations-wrong l q = rw (wrong-equation h (scan-refused x q))
 

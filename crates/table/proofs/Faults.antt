@@ -8,6 +8,8 @@ use native.Mathlib.Omega.{arith}
 use borrow.Author.Tests.{eq-eqb, ne-eqb, lt-ltb, eqb-true, eqb-false, leb-true, ltb-false}
 use lib.Dec.{eqb, ltb, leb}
 use lib.ListN.{length, getD}
+use Rattle.limits.specs.Limits.{mostStreams}
+use Rattle.limits.specs.Refusals.{wrongField, tooDeep}
 use Rattle.basis.proofs.Tests.{pick-case}
 use Rattle.node.specs.Node.{first}
 use Rattle.table.specs.Records.{recordFault, typeRule, roleRule, headFault, inputFault, outputFault, equationFault, sideOf, streamFault, roleAt}
@@ -30,7 +32,7 @@ neither a b = pick-case (λ (n : ℕ). n ≡ 0 → (a ≡ 0) × (b ≡ 0)) (eqb 
 -- ---- numbers: no fault has one above 6
 
 abbrev Low : ℕ → Type 0
-Low n = n ≤ 6
+Low n = n ≤ tooDeep
 
 first-low : {a b : ℕ} → Low a → Low b → Low (first a b)
 unfolding first
@@ -53,20 +55,20 @@ unfolding roleRule
 role-low t r =
     either-low (ltb 1 r) (omega arith) (either-low (eqb r 0) (omega arith) (either-low (eqb t 0) (omega arith) (omega arith)))
 
-pub head-low : (s : List ℕ) → headFault s ≤ 6
+pub head-low : (s : List ℕ) → headFault s ≤ tooDeep
 unfolding headFault
 head-low s =
     first-low (record-low s 0 1 3)
     (either-low (eqb (getD s 1 0) 1)
-    (either-low (eqb (getD s 2 0) 0) (omega arith) (either-low (eqb (getD s 3 0) 0) (omega arith) (either-low (leb (getD s 2 0 + getD s 3 0) 32) (omega arith) (omega arith))))
+    (either-low (eqb (getD s 2 0) 0) (omega arith) (either-low (eqb (getD s 3 0) 0) (omega arith) (either-low (leb (getD s 2 0 + getD s 3 0) mostStreams) (omega arith) (omega arith))))
     (omega arith))
 
-pub stream-low : (side : ℕ) (s : List ℕ) (at : ℕ) → streamFault side s at ≤ 6
+pub stream-low : (side : ℕ) (s : List ℕ) (at : ℕ) → streamFault side s at ≤ tooDeep
 unfolding streamFault inputFault outputFault
 stream-low side s at =
     either-low (eqb side 0) (first-low (record-low s at 2 1) (type-low _)) (first-low (record-low s at 3 2) (first-low (type-low _) (role-low _ _)))
 
-pub equation-low : (s : List ℕ) (at y : ℕ) → equationFault s at y ≤ 6
+pub equation-low : (s : List ℕ) (at y : ℕ) → equationFault s at y ≤ tooDeep
 unfolding equationFault
 equation-low s at y = first-low (record-low s at 4 1) (either-low (eqb (getD s (at + 1) 0) y) (omega arith) (omega arith))
 
@@ -103,15 +105,15 @@ pub record HeadFits (s : List ℕ) : Type 0 where
   pub first-edition : getD s 1 0 ≡ 1
   pub some-input : 1 ≤ getD s 2 0
   pub some-output : 1 ≤ getD s 3 0
-  pub few : getD s 2 0 + getD s 3 0 ≤ 32
+  pub few : getD s 2 0 + getD s 3 0 ≤ mostStreams
 
 pub head-fits : (s : List ℕ) → headFault s ≡ 0 → HeadFits s
 unfolding headFault
 head-fits s e =
-    pick-case Fits (eqb (getD s 1 0) 1) _ 4
-    (λ a. pick-case Fits (eqb (getD s 2 0) 0) 4 _ (λ _ q. absurd (omega arith))
-    (λ b. pick-case Fits (eqb (getD s 3 0) 0) 4 _ (λ _ q. absurd (omega arith))
-    (λ c. pick-case Fits (leb (getD s 2 0 + getD s 3 0) 32) 0 4
+    pick-case Fits (eqb (getD s 1 0) 1) _ wrongField
+    (λ a. pick-case Fits (eqb (getD s 2 0) 0) wrongField _ (λ _ q. absurd (omega arith))
+    (λ b. pick-case Fits (eqb (getD s 3 0) 0) wrongField _ (λ _ q. absurd (omega arith))
+    (λ c. pick-case Fits (leb (getD s 2 0 + getD s 3 0) mostStreams) 0 wrongField
     (λ d _. record { first-edition = eqb-true _ _ a; some-input = some (eqb-false _ _ b); some-output = some (eqb-false _ _ c); few = leb-true _ _ d })
     (λ _ q. absurd (omega arith)))))
     (λ _ q. absurd (omega arith))
@@ -132,14 +134,14 @@ pub record StreamFits (t r : ℕ) : Type 0 where
 
 type-fits : (t : ℕ) → typeRule t ≡ 0 → t ≤ 2
 unfolding typeRule
-type-fits t = pick-case (λ (n : ℕ). n ≡ 0 → t ≤ 2) (ltb 2 t) 4 0 (λ _ q. absurd (omega arith)) (λ p _. ltb-false 2 t p)
+type-fits t = pick-case (λ (n : ℕ). n ≡ 0 → t ≤ 2) (ltb 2 t) wrongField 0 (λ _ q. absurd (omega arith)) (λ p _. ltb-false 2 t p)
 
 role-fits : (t r : ℕ) → roleRule t r ≡ 0 → (r ≤ 1) × (r ≡ 1 → t ≡ 0)
 unfolding roleRule
 role-fits t r =
-    pick-case Fits (ltb 1 r) 4 _ (λ _ q. absurd (omega arith))
+    pick-case Fits (ltb 1 r) wrongField _ (λ _ q. absurd (omega arith))
     (λ p. pick-case Fits (eqb r 0) 0 _ (λ e _. let z = eqb-true r 0 e in (ltb-false 1 r p, λ o. absurd (omega arith)))
-    (λ _. pick-case Fits (eqb t 0) 0 4 (λ e _. (ltb-false 1 r p, λ _. eqb-true t 0 e)) (λ _ q. absurd (omega arith))))
+    (λ _. pick-case Fits (eqb t 0) 0 wrongField (λ e _. (ltb-false 1 r p, λ _. eqb-true t 0 e)) (λ _ q. absurd (omega arith))))
   where
     Fits : ℕ → Type 0
     Fits n = n ≡ 0 → (r ≤ 1) × (r ≡ 1 → t ≡ 0)

@@ -9,6 +9,7 @@ use native.Mathlib.Nat.{le-of-suc-le-suc, not-suc-le-zero}
 use lib.Dec.{eqb}
 use lib.IntN.{ℤ}
 use lib.ListN.{length, getD}
+use Rattle.limits.specs.Refusals.{bytesAfter}
 use Rattle.basis.specs.Edges.{Has}
 use Rattle.basis.proofs.Edges.{has-either}
 use Rattle.basis.proofs.Tests.{pick-case}
@@ -78,7 +79,7 @@ module _ (s ts rs : List ℕ) (f : HeadsFit s ts rs) where
         }
 
   with-equations : (x : Equations) → EquationsSound ts s (length ts - getD s 2 0) (getD s 2 0) x
-      → DecodedSound s (withEquations x λ qs e. mathlib.Core.Bool.cond (eqb e (length s)) (decoded (table qs)) (refused 9 e))
+      → DecodedSound s (withEquations x λ qs e. mathlib.Core.Bool.cond (eqb e (length s)) (decoded (table qs)) (refused bytesAfter e))
   with-equations (equated qs e) g =
       pick-case (DecodedSound s) (eqb e (length s)) _ _ (λ _. table-sound qs (g .0) (g .1)) (λ _. inr refl)
   with-equations (unfit why place) g = inl g

@@ -11,7 +11,9 @@ use borrow.Author.Tests.{eq-eqb, ne-eqb, eqb-true, eqb-false, leb-true}
 use lib.Dec.{eqb, leb}
 use lib.ListN.{length, getD, take, set}
 use lib.Seq.{take-suc-set}
+use Rattle.limits.specs.Limits.{leastTable, mostTable}
 use Rattle.table.specs.Records.{headFault, sideOf, streamFault, roleAt, behind, ifFine, Declared, declares, wrong, before, declared, heads}
+use Rattle.table.specs.Sound.{RecordRefusal}
 use Rattle.table.proofs.Faults.{HeadFits, head-fits, head-low, StreamFits, stream-fits, stream-low, input-role}
 
 before-before : (ts rs us qs : List ℕ) (d : Declared) → before ts rs (before us qs d) ≡ before (ts ++ us) (rs ++ qs) d
@@ -58,7 +60,7 @@ pub record StreamsFit (n i v : ℕ) (ts rs : List ℕ) : Type 0 where
 
 abbrev DeclaredFits : ℕ → ℕ → ℕ → Declared → Type 0
 DeclaredFits n i v (declares ts rs m) = StreamsFit n i v ts rs
-DeclaredFits n i v (wrong why place) = (1 ≤ why) × (why ≤ 6)
+DeclaredFits n i v (wrong why place) = RecordRefusal why
 
 module _ (n i v : ℕ) (t r : ℕ) (f : StreamFits t r) (g : v < i → r ≡ 0) where
   one-more : (d : Declared) → DeclaredFits n i (v + 1) d → DeclaredFits (suc n) i v (before (t ∷ []) (r ∷ []) d)
@@ -85,23 +87,23 @@ declared-fits (suc n) i v s at =
 
 -- what holds of all that stands before the first equation
 pub record HeadsFit (s ts rs : List ℕ) : Type 0 where
-  pub bytes : (1 ≤ length s) × (length s ≤ 4096)
+  pub bytes : (leastTable ≤ length s) × (length s ≤ mostTable)
   pub head : HeadFits s
   pub streams : StreamsFit (getD s 2 0 + getD s 3 0) (getD s 2 0) 0 ts rs
 
 abbrev pub Headed : List ℕ → Declared → Type 0
 Headed s (declares ts rs m) = HeadsFit s ts rs
-Headed s (wrong why place) = (1 ≤ why) × (why ≤ 6)
+Headed s (wrong why place) = RecordRefusal why
 
-with-head : (s : List ℕ) (d : Declared) → (1 ≤ length s) × (length s ≤ 4096) → HeadFits s → DeclaredFits (getD s 2 0 + getD s 3 0) (getD s 2 0) 0 d → Headed s d
+with-head : (s : List ℕ) (d : Declared) → (leastTable ≤ length s) × (length s ≤ mostTable) → HeadFits s → DeclaredFits (getD s 2 0 + getD s 3 0) (getD s 2 0) 0 d → Headed s d
 with-head s (declares ts rs m) b h f = record { bytes = b; head = h; streams = f }
 with-head s (wrong why place) b h f = f
 
 pub heads-fit : (s : List ℕ) → Headed s (heads s)
 unfolding heads
 heads-fit s =
-    fine-case (Headed s) (leb 1 (length s)) _ _
-    (λ a. fine-case (Headed s) (leb (length s) 4096) _ _
+    fine-case (Headed s) (leb leastTable (length s)) _ _
+    (λ a. fine-case (Headed s) (leb (length s) mostTable) _ _
     (λ b. fine-case (Headed s) (eqb (headFault s) 0) _ _
     (λ p. with-head s (declared (getD s 2 0 + getD s 3 0) (getD s 2 0) 0 s 4) (leb-true _ _ a, leb-true _ _ b) (head-fits s (eqb-true _ _ p)) (declared-fits (getD s 2 0 + getD s 3 0) (getD s 2 0) 0 s 4))
     (λ p. (pos-of-ne-zero (eqb-false _ _ p), head-low s)))

@@ -3,6 +3,8 @@
 use Prim.Native.Nat.{ℕ, _-_}
 use mathlib.Core.List.{List, [], _∷_, _++_}
 use lib.ListN.{length, getD, replicate}
+use Rattle.limits.specs.Limits.{mostStreams}
+use Rattle.limits.specs.Refusals.{accepted}
 use Rattle.table.specs.declared.Heading.{Heading}
 use Rattle.table.specs.declared.Solved.{Solved}
 use Rattle.table.specs.declared.Scan.{Scan}
@@ -13,11 +15,11 @@ use Rattle.table.specs.Table.{Equation, Decoded, decoded, refused, Equat
 
 -- a list as an array of 32 entries, 0 past its end
 abbrev pub padded : List ℕ → List ℕ
-padded l = l ++ replicate (32 - length l) 0
+padded l = l ++ replicate (mostStreams - length l) 0
 
 -- the number and the place of an outcome: "An accepted call answers number 0 and place 0."
 unfoldable pub numberOf : Outcome → ℕ
-numberOf Accepted = 0
+numberOf Accepted = accepted
 numberOf (Refused why place) = why
 
 unfoldable pub placeOf : Outcome → ℕ
@@ -29,7 +31,7 @@ unfoldable pub headedOf : ℕ → Declared → Heading
 headedOf i (declares ts rs n) =
     record { number = 0; place = n; inputs = i; streams = length ts; types = padded ts; roles = padded rs }
 headedOf i (wrong why place) =
-    record { number = why; place = place; inputs = 0; streams = 0; types = replicate 32 0; roles = replicate 32 0 }
+    record { number = why; place = place; inputs = 0; streams = 0; types = replicate mostStreams 0; roles = replicate mostStreams 0 }
 
 unfoldable pub headingOf : List ℕ → Heading
 headingOf s = headedOf (getD s 2 0) (heads s)
@@ -42,7 +44,7 @@ startsOf (q ∷ qs) = q .start ∷ startsOf qs
 -- equations behind streams that start where l says: number 0, the place behind them and their starts; of a fault its number and place
 unfoldable pub solvedOf : List ℕ → Equations → Solved
 solvedOf l (equated qs n) = record { number = 0; place = n; starts = padded (l ++ startsOf qs) }
-solvedOf l (unfit why place) = record { number = why; place = place; starts = replicate 32 0 }
+solvedOf l (unfit why place) = record { number = why; place = place; starts = replicate mostStreams 0 }
 
 -- the whole table: its inputs, its streams with their types and roles, and where each output's expression starts (an input's start is 0);
 -- of a refusal its number and place, and zeros
@@ -61,7 +63,7 @@ scanOf (refused why place) =
       outcome = Refused why place;
       inputs = 0;
       streams = 0;
-      types = replicate 32 0;
-      roles = replicate 32 0;
-      starts = replicate 32 0;
+      types = replicate mostStreams 0;
+      roles = replicate mostStreams 0;
+      starts = replicate mostStreams 0;
     }

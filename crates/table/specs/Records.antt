@@ -5,28 +5,31 @@ use mathlib.Core.Bool.{Bool, true, false, cond}
 use mathlib.Core.List.{List, [], _∷_, _++_}
 use lib.Dec.{ltb, leb, eqb}
 use lib.ListN.{length, getD}
+use Rattle.limits.specs.Limits.{leastTable, mostTable, mostStreams}
+use Rattle.limits.specs.Refusals.{tableLength, missing, wrongKind, wrongField}
 use Rattle.node.specs.Node.{first}
 
 -- the fault of a record of the kind k with a body of b bytes: kind byte missing, another kind, body missing
 unfoldable pub recordFault : List ℕ → ℕ → ℕ → ℕ → ℕ
 recordFault s at k b =
-    cond (ltb at (length s)) (cond (eqb (getD s at 0) k) (cond (leb (at + 1 + b) (length s)) 0 2) 3) 2
+    cond (ltb at (length s)) (cond (eqb (getD s at 0) k) (cond (leb (at + 1 + b) (length s)) 0 missing) wrongKind) missing
 
 -- "types are 0 flag, 1 word, 2 level"
 unfoldable pub typeRule : ℕ → ℕ
-typeRule t = cond (ltb 2 t) 4 0
+typeRule t = cond (ltb 2 t) wrongField 0
 
 -- "role (0 plain, 1 trigger)", and refusal 4: "a trigger not of type flag"
 unfoldable pub roleRule : ℕ → ℕ → ℕ
-roleRule t r = cond (ltb 1 r) 4 (cond (eqb r 0) 0 (cond (eqb t 0) 0 4))
+roleRule t r = cond (ltb 1 r) wrongField (cond (eqb r 0) 0 (cond (eqb t 0) 0 wrongField))
 
 -- the record 01: edition 1, "I and O at least 1; S at most 32"
 unfoldable pub headFault : List ℕ → ℕ
 headFault s =
     first (recordFault s 0 1 3)
     (cond (eqb (getD s 1 0) 1)
-    (cond (eqb (getD s 2 0) 0) 4 (cond (eqb (getD s 3 0) 0) 4 (cond (leb (getD s 2 0 + getD s 3 0) 32) 0 4)))
-    4)
+    (cond (eqb (getD s 2 0) 0) wrongField
+    (cond (eqb (getD s 3 0) 0) wrongField (cond (leb (getD s 2 0 + getD s 3 0) mostStreams) 0 wrongField)))
+    wrongField)
 
 -- the record 02, an input's
 unfoldable pub inputFault : List ℕ → ℕ → ℕ
@@ -39,7 +42,7 @@ outputFault s at =
 
 -- the record 04 of the stream y: "O of 04 in stream order"
 unfoldable pub equationFault : List ℕ → ℕ → ℕ → ℕ
-equationFault s at y = first (recordFault s at 4 1) (cond (eqb (getD s (at + 1) 0) y) 0 4)
+equationFault s at y = first (recordFault s at 4 1) (cond (eqb (getD s (at + 1) 0) y) 0 wrongField)
 
 -- whether the stream v is an input (0) or an output (1), of i inputs: "inputs first"
 unfoldable pub sideOf : ℕ → ℕ → ℕ
@@ -80,8 +83,8 @@ declared (suc n) i v s at =
 -- all that stands before the first equation: "table 1 to 4,096 bytes", the record 01, the streams' records
 unfoldable pub heads : List ℕ → Declared
 heads s =
-    ifFine (leb 1 (length s))
-    (λ _. ifFine (leb (length s) 4096)
+    ifFine (leb leastTable (length s))
+    (λ _. ifFine (leb (length s) mostTable)
     (λ _. ifFine (eqb (headFault s) 0) (λ _. declared (getD s 2 0 + getD s 3 0) (getD s 2 0) 0 s 4) (wrong (headFault s) 0))
-    (wrong 1 0))
-    (wrong 1 0)
+    (wrong tableLength 0))
+    (wrong tableLength 0)

@@ -6,6 +6,8 @@ use mathlib.Core.Logic.{_⊎_}
 use mathlib.Core.Path.{_≡_}
 use lib.IntN.{ℤ}
 use lib.ListN.{length, getD}
+use Rattle.limits.specs.Limits.{leastTable, mostTable, mostStreams, mostLevels}
+use Rattle.limits.specs.Refusals.{tableLength, tooDeep, bytesAfter}
 use Rattle.basis.specs.Edges.{Has}
 use Rattle.expression.specs.Syntax.{Fit}
 use Rattle.expression.specs.Grammar.{good, parse}
@@ -15,19 +17,19 @@ use Rattle.table.specs.Table.{Table, equationOf, streams, edges}
 -- the expression of the output y stands in the table s where its equation says
 pub record Stands (s : List ℕ) (t : Table) (y : ℕ) : Type 0 where
   pub end : ℕ
-  pub parsed : parse 16 (t .types) s (getD (t .types) y 0) (equationOf t y .start) ≡ good (equationOf t y .expr) end
-  pub starts : equationOf t y .start ≤ 4096
+  pub parsed : parse mostLevels (t .types) s (getD (t .types) y 0) (equationOf t y .start) ≡ good (equationOf t y .expr) end
+  pub starts : equationOf t y .start ≤ mostTable
   pub fit : Fit (t .types) (getD (t .types) y 0) (equationOf t y .expr)
 
 pub record Sound (s : List ℕ) (t : Table) : Type 0 where
   -- "table 1 to 4,096 bytes"
-  pub bytes : (1 ≤ length s) × (length s ≤ 4096)
+  pub bytes : (leastTable ≤ length s) × (length s ≤ mostTable)
   -- "edition (1)"
   pub first-edition : t .edition ≡ 1
   -- "I and O at least 1; S at most 32", S = I + O
   pub some-input : 1 ≤ t .inputs
   pub some-output : t .inputs < streams t
-  pub few : streams t ≤ 32
+  pub few : streams t ≤ mostStreams
   pub outputs : t .inputs + length (t .equations) ≡ streams t
   pub each-role : length (t .roles) ≡ streams t
   -- "types are 0 flag, 1 word, 2 level", "role (0 plain, 1 trigger)", a trigger is of type flag, an input is none
@@ -40,6 +42,10 @@ pub record Sound (s : List ℕ) (t : Table) : Type 0 where
   pub edge-within : (y v : ℕ) (k : ℤ) → Has y v k (edges t)
       → ((t .inputs ≤ y) × (y < streams t)) × ((v < streams t) × Ranged k)
 
--- the numbers that refuse a table here: 1 to 6 and 9
+-- the numbers of a record's first fault, from "table length out of its limits" to "node at level 17"
+abbrev pub RecordRefusal : ℕ → Type 0
+RecordRefusal n = (tableLength ≤ n) × (n ≤ tooDeep)
+
+-- the numbers that refuse a table here: those and "bytes after the last expression"
 abbrev pub TableRefusal : ℕ → Type 0
-TableRefusal n = ((1 ≤ n) × (n ≤ 6)) ⊎ (n ≡ 9)
+TableRefusal n = RecordRefusal n ⊎ (n ≡ bytesAfter)

@@ -5,6 +5,8 @@ use mathlib.Core.Bool.{cond}
 use mathlib.Core.List.{List, [], _∷_, _++_}
 use lib.Dec.{eqb}
 use lib.ListN.{length, getD}
+use Rattle.limits.specs.Limits.{mostLevels}
+use Rattle.limits.specs.Refusals.{bytesAfter}
 use Rattle.basis.specs.Edges.{Edge}
 use Rattle.node.specs.declared.Node.the-variants.{Constant}
 use Rattle.expression.specs.Syntax.{Expr, leaf}
@@ -41,7 +43,7 @@ equationOf t y = getD (t .equations) (y - t .inputs) (record { start = 0; expr =
 -- the record 04 of the stream y at a place and the expression that follows it, over streams of the types ts
 unfoldable pub equationAt : List ℕ → List ℕ → ℕ → ℕ → Parsed
 equationAt ts s y at =
-    ifFine (eqb (equationFault s at y) 0) (λ _. parse 16 ts s (getD ts y 0) (at + 2)) (bad (equationFault s at y) at)
+    ifFine (eqb (equationFault s at y) 0) (λ _. parse mostLevels ts s (getD ts y 0) (at + 2)) (bad (equationFault s at y) at)
 
 -- some equations and the place behind them, or the number and the place of a fault
 pub data Equations : Type 0 where
@@ -77,7 +79,7 @@ tableOf s ts rs at =
     withEquations (equationsAt (length ts - getD s 2 0) (getD s 2 0) ts s at) λ qs e.
     cond (eqb e (length s))
     (decoded (record { edition = getD s 1 0; inputs = getD s 2 0; types = ts; roles = rs; equations = qs }))
-    (refused 9 e)
+    (refused bytesAfter e)
 
 -- "The scan goes front to back and stops at the first fault"
 unfoldable pub decode : List ℕ → Decoded

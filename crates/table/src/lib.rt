@@ -1,55 +1,52 @@
 // The scan of a table: what stands before the first equation, one equation, the whole table (document 01, "The table"; refusals 1 to 6
 // and 9).
 ghost use mathlib.Core.Path.{_≡_};
-ghost use mathlib.Core.List.{[]};
-ghost use Prim.Native.Nat.{ℕ, _+_, _-_, _≤_, _<_};
+ghost use Prim.Native.Nat.{_+_, _-_, _≤_, _<_};
 ghost use lib.ListN.{length, take, replicate};
+ghost use Rattle.limits.specs.Limits.{mostTable, mostStreams};
+ghost use Rattle.node.specs.Node.{Types};
 ghost use Rattle.expression.specs.References.{Scans};
-ghost use Rattle.table.specs.Records.{recordFault, typeRule, roleRule, headFault, inputFault, outputFault, equationFault, sideOf, streamFault, roleAt, wrong, declared};
+ghost use Rattle.table.specs.Records.{recordFault, typeRule, roleRule, headFault, inputFault, outputFault, equationFault};
+ghost use Rattle.table.specs.Records.{sideOf, streamFault, roleAt, wrong, declared};
 ghost use Rattle.table.specs.Table.{equationAt, equationsAt, refused, decode};
 ghost use Rattle.table.specs.Answers.{headedOf, headingOf, solvedOf, scanOf};
 use expression::Scanned;
-
-fn size(x: u8) -> usize
-    ensures { λ r. ⌜ r ≡ x ⌝ }
-{
-    x as usize
-}
+use limits::STREAMS_MOST;
 
 // 0, or the fault of a record of the kind `kind` at `at`.
 fn record_fault(table: &[u8], at: usize, kind: u8, body: u8) -> u8
     ensures { λ r. ⌜ r ≡ recordFault (now (table .entry)) at kind body ⌝ }
 {
     if table.len() <= at {
-        return 2;
+        return limits::MISSING;
     }
     let found = table[at];
     if found == kind {
-        let need = size(body);
+        let need = wire::byte_size(body);
         let room = table.len() - at;
-        if room <= need { 2 } else { 0 }
+        if room <= need { limits::MISSING } else { 0 }
     } else {
-        3
+        limits::KIND
     }
 }
 
 fn type_rule(t: u8) -> u8
     ensures { λ r. ⌜ r ≡ typeRule t ⌝ }
 {
-    if 2 < t { 4 } else { 0 }
+    if 2 < t { limits::FIELD } else { 0 }
 }
 
 fn role_rule(t: u8, role: u8) -> u8
     ensures { λ r. ⌜ r ≡ roleRule t role ⌝ }
 {
     if 1 < role {
-        4
+        limits::FIELD
     } else if role == 0 {
         0
     } else if t == 0 {
         0
     } else {
-        4
+        limits::FIELD
     }
 }
 
@@ -62,16 +59,16 @@ fn head_fault(table: &[u8]) -> u8
         let outputs = table[3];
         if table[1] == 1 {
             if inputs == 0 {
-                4
+                limits::FIELD
             } else if outputs == 0 {
-                4
-            } else if size(inputs) + size(outputs) <= 32 {
+                limits::FIELD
+            } else if wire::byte_size(inputs) + wire::byte_size(outputs) <= STREAMS_MOST {
                 0
             } else {
-                4
+                limits::FIELD
             }
         } else {
-            4
+            limits::FIELD
         }
     } else {
         no
@@ -111,7 +108,11 @@ fn equation_fault(table: &[u8], at: usize, stream: usize) -> u8
 {
     let no = record_fault(table, at, 4, 1);
     if no == 0 {
-        if size(table[at + 1]) == stream { 0 } else { 4 }
+        if wire::byte_size(table[at + 1]) == stream {
+            0
+        } else {
+            limits::FIELD
+        }
     } else {
         no
     }
@@ -148,8 +149,8 @@ pub struct Heading {
     pub place: usize,
     pub inputs: usize,
     pub streams: usize,
-    pub types: [u8; 32],
-    pub roles: [u8; 32],
+    pub types: [u8; STREAMS_MOST],
+    pub roles: [u8; STREAMS_MOST],
 }
 
 fn no_heading(number: u8, place: usize, inputs: usize) -> Heading
@@ -160,18 +161,18 @@ fn no_heading(number: u8, place: usize, inputs: usize) -> Heading
         place: place,
         inputs: 0,
         streams: 0,
-        types: [0u8; 32],
-        roles: [0u8; 32],
+        types: [0u8; STREAMS_MOST],
+        roles: [0u8; STREAMS_MOST],
     }
 }
 
 // The streams' records.
 fn scan_streams(table: &[u8], inputs: usize, streams: usize) -> Heading
-    requires { ⌜ streams ≤ 32 ⌝ }
+    requires { ⌜ streams ≤ mostStreams ⌝ }
     ensures { λ r. ⌜ r ≡ headedOf inputs (declared streams inputs 0 (now (table .entry)) 4) ⌝ }
 {
-    let mut types = [0u8; 32];
-    let mut roles = [0u8; 32];
+    let mut types = [0u8; STREAMS_MOST];
+    let mut roles = [0u8; STREAMS_MOST];
     let mut v = 0;
     let mut next = 4;
     while v < streams {
@@ -181,7 +182,7 @@ fn scan_streams(table: &[u8], inputs: usize, streams: usize) -> Heading
             types[v] = table[next + 1];
             roles[v] = role_at(table, next, side);
             v += 1;
-            next += size(side) + 2;
+            next += wire::byte_size(side) + 2;
         } else {
             return no_heading(no, next, inputs);
         }
@@ -200,16 +201,16 @@ fn scan_streams(table: &[u8], inputs: usize, streams: usize) -> Heading
 pub fn scan_heading(table: &[u8]) -> Heading
     ensures { λ r. ⌜ r ≡ headingOf (now (table .entry)) ⌝ }
 {
-    if table.len() < 1 {
-        return no_heading(1, 0, 0);
+    if table.len() < limits::TABLE_LEAST {
+        return no_heading(limits::TABLE_LENGTH, 0, 0);
     }
-    if 4096 < table.len() {
-        return no_heading(1, 0, 0);
+    if limits::TABLE_MOST < table.len() {
+        return no_heading(limits::TABLE_LENGTH, 0, 0);
     }
     let no = head_fault(table);
     if no == 0 {
-        let inputs = size(table[2]);
-        scan_streams(table, inputs, inputs + size(table[3]))
+        let inputs = wire::byte_size(table[2]);
+        scan_streams(table, inputs, inputs + wire::byte_size(table[3]))
     } else {
         no_heading(no, 0, 0)
     }
@@ -219,19 +220,29 @@ pub fn scan_heading(table: &[u8]) -> Heading
 // references are noted in `rise` and `fall`.
 pub fn scan_equation(
     table: &[u8],
-    types: &[u8; 32],
+    types: &[u8; STREAMS_MOST],
     streams: usize,
     y: usize,
     at: usize,
-    rise: &mut [u16; 32],
-    fall: &mut [u16; 32],
+    rise: &mut [u16; STREAMS_MOST],
+    fall: &mut [u16; STREAMS_MOST],
 ) -> Scanned
-    requires { ⌜ (y < streams) × ((streams ≤ 32) × (length (now types) ≡ 32)) ⌝ }
-    ensures { λ r. ⌜ Scans (equationAt (take streams (now (types .entry))) (now (table .entry)) y at) (now (rise .entry)) (now (fall .entry)) (now (rise .exit)) (now (fall .exit)) r ⌝ }
+    requires { ⌜ (y < streams) × Types streams (now types) ⌝ }
+    ensures { λ r. ⌜ Scans (equationAt (take streams (now (types .entry))) (now (table .entry)) y at)
+        (now (rise .entry)) (now (fall .entry)) (now (rise .exit)) (now (fall .exit)) r ⌝ }
 {
     let no = equation_fault(table, at, y);
     if no == 0 {
-        expression::scan_expr(table, types, streams, types[y], at + 2, 16, rise, fall)
+        expression::scan_expr(
+            table,
+            types,
+            streams,
+            types[y],
+            at + 2,
+            limits::LEVELS_MOST,
+            rise,
+            fall,
+        )
     } else {
         Scanned::Refused(no, at)
     }
@@ -241,17 +252,24 @@ pub fn scan_equation(
 pub struct Solved {
     pub number: u8,
     pub place: usize,
-    pub starts: [u16; 32],
+    pub starts: [u16; STREAMS_MOST],
 }
 
 // The equations of the streams from..streams, the first of them at `at`.
-fn scan_equations(table: &[u8], types: &[u8; 32], from: usize, streams: usize, at: usize) -> Solved
-    requires { ⌜ (from ≤ streams) × ((streams ≤ 32) × ((length (now types) ≡ 32) × (length (now table) ≤ 4096))) ⌝ }
-    ensures { λ r. ⌜ r ≡ solvedOf (replicate from 0) (equationsAt (streams - from) from (take streams (now (types .entry))) (now (table .entry)) at) ⌝ }
+fn scan_equations(
+    table: &[u8],
+    types: &[u8; STREAMS_MOST],
+    from: usize,
+    streams: usize,
+    at: usize,
+) -> Solved
+    requires { ⌜ (from ≤ streams) × (Types streams (now types) × (length (now table) ≤ mostTable)) ⌝ }
+    ensures { λ r. ⌜ r ≡ solvedOf (replicate from 0)
+        (equationsAt (streams - from) from (take streams (now (types .entry))) (now (table .entry)) at) ⌝ }
 {
-    let mut starts = [0u16; 32];
-    let mut rise = [0u16; 32];
-    let mut fall = [0u16; 32];
+    let mut starts = [0u16; STREAMS_MOST];
+    let mut rise = [0u16; STREAMS_MOST];
+    let mut fall = [0u16; STREAMS_MOST];
     let mut y = from;
     let mut next = at;
     while y < streams {
@@ -260,7 +278,7 @@ fn scan_equations(table: &[u8], types: &[u8; 32], from: usize, streams: usize, a
                 return Solved {
                     number: no,
                     place: place,
-                    starts: [0u16; 32],
+                    starts: [0u16; STREAMS_MOST],
                 };
             }
             Scanned::Ends(end) => {
@@ -288,9 +306,9 @@ pub struct Scan {
     pub outcome: Outcome,
     pub inputs: usize,
     pub streams: usize,
-    pub types: [u8; 32],
-    pub roles: [u8; 32],
-    pub starts: [u16; 32],
+    pub types: [u8; STREAMS_MOST],
+    pub roles: [u8; STREAMS_MOST],
+    pub starts: [u16; STREAMS_MOST],
 }
 
 fn refusal(number: u8, place: usize) -> Scan
@@ -300,9 +318,9 @@ fn refusal(number: u8, place: usize) -> Scan
         outcome: Outcome::Refused(number, place),
         inputs: 0,
         streams: 0,
-        types: [0u8; 32],
-        roles: [0u8; 32],
-        starts: [0u16; 32],
+        types: [0u8; STREAMS_MOST],
+        roles: [0u8; STREAMS_MOST],
+        starts: [0u16; STREAMS_MOST],
     }
 }
 
@@ -327,7 +345,7 @@ pub fn scan_table(table: &[u8]) -> Scan
                     starts: starts,
                 }
             } else {
-                refusal(9, q.place)
+                refusal(limits::BYTES_AFTER, q.place)
             }
         } else {
             refusal(q.number, q.place)

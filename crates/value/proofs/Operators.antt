@@ -1,13 +1,12 @@
 -- Laws of the operators' results (document 01, "The table", kinds 20 to 2F).
 -- Assumes nothing.
 use mathlib.Core.Path.{_≡_, refl}
-use mathlib.Core.Bool.{Bool, true, false}
+use mathlib.Core.Bool.{Bool}
 use Prim.Native.Nat.{ℕ, _<_, _^_, _+_, _-_, _%_}
 use native.Mathlib.Omega.{arith}
 use lib.Ieee.{Float, binary32}
 use lib.Ieee.Fits.{add-fits, sub-fits, mul-fits, div-fits}
-use Rattle.value.specs.Values.{typeOf, Good, pick, flagOf, chooseOf, Op, onOp, typeOfOp, not-flag, and-flags, or-flags, add-words, sub-words, ahead-words, less-words, equal-words, equal-flags, equal-levels, add-levels, sub-levels, mul-levels, div-levels, less-levels, no-operator}
-use Rattle.value.specs.declared.Value.{Value}
+use Rattle.value.specs.Values.{typeOf, Good, Op, onOp, typeOfOp, not-flag, and-flags, or-flags, add-words, sub-words, ahead-words, less-words, equal-words, equal-flags, equal-levels, add-levels, sub-levels, mul-levels, div-levels, less-levels, no-operator}
 
 -- every operator's result is of the operator's type
 pub op-type : (o : Op) (p q : Bool) (m n : ℕ) (x y : Float) → typeOf (onOp o p q m n x y) ≡ typeOfOp o
@@ -27,21 +26,6 @@ op-type mul-levels p q m n x y = refl
 op-type div-levels p q m n x y = refl
 op-type less-levels p q m n x y = refl
 op-type no-operator p q m n x y = refl
-
--- a choice is of its branches' type, and good where they are
-pub choose-type : (t : ℕ) (a b c : Value) → typeOf b ≡ t → typeOf c ≡ t → typeOf (chooseOf a b c) ≡ t
-choose-type t a b c p q = go (flagOf a)
-  where
-    go : (f : Bool) → typeOf (pick f b c) ≡ t
-    go true = p
-    go false = q
-
-pub choose-good : (a b c : Value) → Good b → Good c → Good (chooseOf a b c)
-choose-good a b c p q = go (flagOf a)
-  where
-    go : (f : Bool) → Good (pick f b c)
-    go true = p
-    go false = q
 
 mod-word : (n : ℕ) → n % 2 ^ 32 < 2 ^ 32
 mod-word n = omega arith

@@ -5,7 +5,7 @@ use mathlib.Core.Bool.{Bool, true, false, not, _&&_, _||_, Bool·beq, cond}
 use lib.Dec.{T, ltb, eqb}
 use lib.Ieee as Ieee
 use lib.Ieee.{Float, binary32}
-use Rattle.level.specs.Level.{sameLevel, oneNan}
+use Rattle.level.specs.Level.{sameLevel}
 use Rattle.value.specs.Words.{addWords, subWords, aheadOf}
 use Rattle.value.specs.declared.Value.{Value}
 use Rattle.value.specs.declared.Value.the-variants.{Flag, Word, Level}
@@ -30,10 +30,6 @@ pick false a b = b
 -- a word read as a value of type t: a flag is "true exactly when it isn't 0", a level has one NaN; a type above 2 counts as 2
 abbrev pub readingOf : ℕ → ℕ → Value
 readingOf t w = pick (eqb t 0) (Flag (not (eqb w 0))) (pick (eqb t 1) (Word w) (Level (Ieee.ofBits binary32 w)))
-
--- the word that lies in the store for a word of type t
-abbrev pub clean : ℕ → ℕ → ℕ
-clean t w = cond (eqb t 0) (cond (eqb w 0) 0 1) (cond (eqb t 1) w (oneNan w))
 
 -- what every value of the program is: a word is below 2 ^ 32, a level is one of binary32
 abbrev pub Good : Value → Type 0

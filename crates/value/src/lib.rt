@@ -3,7 +3,7 @@
 ghost use mathlib.Core.Path.{_≡_};
 ghost use mathlib.Core.Bool.{_&&_, _||_, Bool·beq};
 ghost use Rattle.value.specs.Words.{subWords, aheadOf};
-ghost use Rattle.value.specs.Values.{imageOf, readingOf, flagOf, wordOf, levelOf, operateOf, applyOf, chooseOf, typeOf};
+ghost use Rattle.value.specs.Values.{imageOf, readingOf, flagOf, wordOf, levelOf, operateOf, applyOf, chooseOf};
 
 pub enum Value {
     Flag(bool),
@@ -30,16 +30,6 @@ pub fn reading(t: u8, w: u32) -> Value
         0 => Value::Flag(w != 0),
         1 => Value::Word(w),
         _ => Value::Level(level::level_of(w)),
-    }
-}
-
-pub fn type_of(v: Value) -> u8
-    ensures { λ r. ⌜ r ≡ typeOf v ⌝ }
-{
-    match v {
-        Value::Flag(_) => 0,
-        Value::Word(_) => 1,
-        Value::Level(_) => 2,
     }
 }
 

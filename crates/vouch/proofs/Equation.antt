@@ -8,6 +8,8 @@ use native.Mathlib.Omega.{arith}
 use borrow.Author.Tests.{eqb-true}
 use lib.Dec.{eqb}
 use lib.ListN.{length, getD, replicate, getD-replicate, length-replicate}
+use Rattle.basis.specs.Firsts.{of}
+use Rattle.limits.specs.Limits.{mostStreams, mostLevels}
 use Rattle.basis.specs.Edges.{Edge}
 use Rattle.expression.specs.declared.Scanned.{Scanned}
 use Rattle.expression.specs.declared.Scanned.the-variants as scanned
@@ -20,7 +22,6 @@ use Rattle.expression.proofs.Extremes.{extremes}
 use Rattle.table.specs.Records.{ifFine, equationFault}
 use Rattle.table.specs.Table.{equationAt}
 use Rattle.table.proofs.Faults.{equation-room}
-use Rattle.certificate.specs.Certificate.{of}
 use Rattle.certificate.specs.Tally.{Row, Lacks, NotedRow}
 use Rattle.vouch.specs.declared.Noted.the-variants.{Ends}
 use Rattle.vouch.specs.Steps.{NotedEquation}
@@ -33,9 +34,9 @@ fine-parsed true f why place q = (refl, q)
 fine-parsed false f why place q = bad-good q
 
 -- an equation that is read: its record has no fault, and its expression follows
-equation-read : (ts s : List ℕ) (y at : ℕ) {e : Expr} {n : ℕ} → equationAt ts s y at ≡ good e n → (eqb (equationFault s at y) 0 ≡ true) × (parse 16 ts s (getD ts y 0) (at + 2) ≡ good e n)
+equation-read : (ts s : List ℕ) (y at : ℕ) {e : Expr} {n : ℕ} → equationAt ts s y at ≡ good e n → (eqb (equationFault s at y) 0 ≡ true) × (parse mostLevels ts s (getD ts y 0) (at + 2) ≡ good e n)
 unfolding equationAt
-equation-read ts s y at q = fine-parsed (eqb (equationFault s at y) 0) (λ _. parse 16 ts s (getD ts y 0) (at + 2)) (equationFault s at y) at q
+equation-read ts s y at q = fine-parsed (eqb (equationFault s at y) 0) (λ _. parse mostLevels ts s (getD ts y 0) (at + 2)) (equationFault s at y) at q
 
 -- its expression starts in the table
 pub equation-starts : (ts s : List ℕ) (y at : ℕ) {e : Expr} {n : ℕ} → equationAt ts s y at ≡ good e n → at + 2 ≤ length s
@@ -43,13 +44,13 @@ equation-starts ts s y at q = equation-room s at y (eqb-true (equationFault s at
 
 -- the references of an equation lead from its stream to streams of the table
 equation-refers : (ts s : List ℕ) (y at : ℕ) {e : Expr} {n : ℕ} → equationAt ts s y at ≡ good e n → Refers y (length ts) (references y e)
-equation-refers ts s y at q = good-right ts s 16 (getD ts y 0) (at + 2) (equation-read ts s y at q .1) .refers y
+equation-refers ts s y at q = good-right ts s mostLevels (getD ts y 0) (at + 2) (equation-read ts s y at q .1) .refers y
 
-module _ (ts s : List ℕ) (y at : ℕ) {S : ℕ} (long : length ts ≡ S) (few : S ≤ 32) {rise fall : List ℕ} {o : Scanned} (x : Scans (equationAt ts s y at) (replicate 32 0) (replicate 32 0) rise fall o) where
+module _ (ts s : List ℕ) (y at : ℕ) {S : ℕ} (long : length ts ≡ S) (few : S ≤ mostStreams) {rise fall : List ℕ} {o : Scanned} (x : Scans (equationAt ts s y at) (replicate mostStreams 0) (replicate mostStreams 0) rise fall o) where
   row-of : {e : Expr} {n : ℕ} → equationAt ts s y at ≡ good e n → Row (references y e) y (of rise) (of fall) S
   row-of {e} {n} q = rw (x .rises e n q, x .falls e n q) (record {
     refers = r;
-    extremes = λ v l. extremes e r (replicate 32 0) (replicate 32 0) v (omega (arith, length-replicate {A = ℕ} 32 0)) (omega (arith, length-replicate {A = ℕ} 32 0)) (getD-replicate 32 v 0 0 (omega arith)) (getD-replicate 32 v 0 0 (omega arith));
+    extremes = λ v l. extremes e r (replicate mostStreams 0) (replicate mostStreams 0) v (omega (arith, length-replicate {A = ℕ} mostStreams 0)) (omega (arith, length-replicate {A = ℕ} mostStreams 0)) (getD-replicate mostStreams v 0 0 (omega arith)) (getD-replicate mostStreams v 0 0 (omega arith));
   })
     where
       r : Refers y S (references y e)

@@ -1,4 +1,3 @@
 pub mod Equation
 pub mod Pass
 pub mod Whole
-pub mod Unique

@@ -10,6 +10,7 @@ use native.Mathlib.Numerals.{add-one}
 use lib.IntN.{ℤ}
 use lib.ListN.{length, take, set, replicate, length-set, length-append}
 use lib.Seq.{take-suc-set}
+use Rattle.limits.specs.Limits.{mostStreams}
 use Rattle.basis.specs.Edges.{Edge, Has, among}
 use Rattle.basis.proofs.Edges.{has-after, has-before, has-either}
 use Rattle.walks.specs.Walks.{Within, Right}
@@ -87,12 +88,12 @@ pub record Passed (i s : ℕ) (ts bytes : List ℕ) (at : ℕ) (look : ℕ → �
   pub reached : y ≡ i + length done
   pub whole : equationsAt (s - i) i ts bytes at ≡ after done (equationsAt (s - y) y ts bytes next)
   pub tally : Tally (among (edgesFrom i done)) look tight most
-  pub long : length starts ≡ 32
+  pub long : length starts ≡ mostStreams
   pub zeros : ZeroFrom y starts
   pub started : take y starts ≡ replicate i 0 ++ startsOf done
 
 module _ (i s : ℕ) (ts bytes : List ℕ) (at : ℕ) (look : ℕ → ℕ) where
-  pub pass-start : {starts tight most : List ℕ} → Tally (among []) look tight most → length starts ≡ 32 → ZeroFrom i starts → take i starts ≡ replicate i 0 → Passed i s ts bytes at look i at starts tight most
+  pub pass-start : {starts tight most : List ℕ} → Tally (among []) look tight most → length starts ≡ mostStreams → ZeroFrom i starts → take i starts ≡ replicate i 0 → Passed i s ts bytes at look i at starts tight most
   unfolding edgesFrom startsOf
   pass-start x l z e = record {
     done = [];
@@ -110,7 +111,7 @@ module _ (i s : ℕ) (ts bytes : List ℕ) (at : ℕ) (look : ℕ → ℕ) where
     unfolding equationsAt
     one-more h = let e : s - y ≡ suc (s - (y + 1)) = omega arith in rw e
 
-    pub pass-on : {e : Expr} {n : ℕ} {tight′ most′ : List ℕ} → y < s → y < 32 → equationAt ts bytes y next ≡ good e n →
+    pub pass-on : {e : Expr} {n : ℕ} {tight′ most′ : List ℕ} → y < s → y < mostStreams → equationAt ts bytes y next ≡ good e n →
         ((es : List Edge) → Tally (among es) look tight most → Tally (among (references y e ++ es)) look tight′ most′) →
         Passed i s ts bytes at look (y + 1) n (set starts y (next + 2)) tight′ most′
     unfolding edgesFrom
@@ -152,7 +153,7 @@ module _ (i s : ℕ) (ts bytes : List ℕ) (at : ℕ) (look : ℕ → ℕ) where
       pub pass-other : {end : ℕ} → (next ≡ end → ⊥) → (qs : List Equation) → equationsAt (s - i) i ts bytes at ≡ equated qs end → ⊥
       pass-other {end} n qs e = n (let f = pass-end in cc)
 
-      pub pass-settled : {end : ℕ} (kept : ℕ → ℕ) → y ≤ 32 → next ≡ end → (b : Bool) (order : List ℕ) →
+      pub pass-settled : {end : ℕ} (kept : ℕ → ℕ) → y ≤ mostStreams → next ≡ end → (b : Bool) (order : List ℕ) →
           ((es : List Edge) → Within (among es) s → Tally (among es) look tight most → Settled b (among es) s look kept order) →
           Judgement b (equationsAt (s - i) i ts bytes at) end i s look kept starts order
       pass-settled kept g n true order f = record {

@@ -7,6 +7,7 @@ use Prim.Native.Nat.{ℕ}
 use native.Mathlib.Omega.{arith}
 use native.Mathlib.Decide.{ℕ-discrete}
 use lib.ListN.{length, getD, replicate}
+use Rattle.basis.specs.Firsts.{of}
 use Rattle.basis.specs.Edges.{among}
 use Rattle.walks.specs.Walks.{Within, Right}
 use Rattle.table.specs.declared.Heading.{Heading}
@@ -14,7 +15,7 @@ use Rattle.table.specs.Table.{Equation, Table, decoded, refused, Equations, equ
 use Rattle.table.specs.Answers.{padded, headedOf, headingOf, startsOf}
 use Rattle.table.proofs.Decoding.{Opens, decode-unheaded, opened-inputs, opened-streams, behind-heading, decode-unfit, decode-more, decode-equated}
 use Rattle.table.proofs.Sound.{sound}
-use Rattle.certificate.specs.Certificate.{of, Ordered}
+use Rattle.certificate.specs.Certificate.{Ordered}
 use Rattle.vouch.specs.Vouching.{Bounded, Certified, Vouched, Vouches, Verdict}
 use Rattle.vouch.specs.Steps.{Judges, Judgement}
 

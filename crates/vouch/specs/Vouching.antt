@@ -5,23 +5,25 @@ use mathlib.Core.Path.{_≡_}
 use mathlib.Core.Bool.{Bool, true, false}
 use mathlib.Core.List.{List, _++_}
 use lib.ListN.{getD, replicate}
+use Rattle.basis.specs.Firsts.{of}
+use Rattle.limits.specs.Limits.{mostStreams, mostWords}
 use Rattle.basis.specs.Sums.{total}
 use Rattle.basis.specs.Edges.{among}
 use Rattle.walks.specs.Walks.{Right}
 use Rattle.table.specs.Table.{Table, decoded, decode, streams, edges}
 use Rattle.table.specs.Answers.{padded, startsOf}
-use Rattle.certificate.specs.Certificate.{of, Ordered}
+use Rattle.certificate.specs.Certificate.{Ordered}
 use Rattle.vouch.specs.declared.Found.{Found}
 
 -- "(0 past S)"
 abbrev pub ZeroPast : List ℕ → ℕ → Type 0
-ZeroPast numbers s = (v : ℕ) → s ≤ v → v < 32 → getD numbers v 0 ≡ 0
+ZeroPast numbers s = (v : ℕ) → s ≤ v → v < mostStreams → getD numbers v 0 ≡ 0
 
 -- what a record's numbers must be whatever the edges: "(0 past S)", and "store at most 4,096 words", the store words being "the sum of kept values"
 pub record Bounded (look kept : List ℕ) (s : ℕ) : Type 0 where
   pub look-past : ZeroPast look s
   pub kept-past : ZeroPast kept s
-  pub store : total (of kept) s ≤ 4096
+  pub store : total (of kept) s ≤ mostWords
 
 -- the numbers of a record of this table
 pub record Certified (t : Table) (look kept : List ℕ) : Type 0 where

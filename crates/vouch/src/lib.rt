@@ -4,28 +4,31 @@ ghost use mathlib.Core.Path.{_≡_};
 ghost use mathlib.Core.Bool.{false};
 ghost use Prim.Native.Nat.{_+_, _-_, _<_, _≤_};
 ghost use lib.ListN.{length, take};
+ghost use Rattle.basis.specs.Firsts.{of};
+ghost use Rattle.limits.specs.Limits.{mostTable, mostStreams};
+ghost use Rattle.node.specs.Node.{Types};
 ghost use Rattle.table.specs.Table.{equationAt, equationsAt};
-ghost use Rattle.certificate.specs.Certificate.{of};
 ghost use Rattle.vouch.specs.Vouching.{ZeroPast, Bounded, vouchedBy, Verdict};
 ghost use Rattle.vouch.specs.Steps.{Decides, NotedEquation, Judgement};
 use expression::Scanned;
+use limits::STREAMS_MOST;
 
 // Whether the numbers from the stream `s` on are 0: they add nothing to the sum.
-fn zero_past(numbers: &[u16; 32], s: usize) -> bool
-    requires { ⌜ s ≤ 32 ⌝ }
+fn zero_past(numbers: &[u16; STREAMS_MOST], s: usize) -> bool
+    requires { ⌜ s ≤ mostStreams ⌝ }
     ensures { λ r. ⌜ Decides r (ZeroPast (now (numbers .entry)) s) ⌝ }
 {
-    numbers::sum(numbers, 32) == numbers::sum(numbers, s)
+    numbers::sum(numbers, STREAMS_MOST) == numbers::sum(numbers, s)
 }
 
-// Whether the numbers are 0 past the last stream and ask no more than 4,096 store words.
-fn within_bounds(look: &[u16; 32], kept: &[u16; 32], s: usize) -> bool
-    requires { ⌜ s ≤ 32 ⌝ }
+// Whether the numbers are 0 past the last stream and ask no more store words than a store may have.
+fn within_bounds(look: &[u16; STREAMS_MOST], kept: &[u16; STREAMS_MOST], s: usize) -> bool
+    requires { ⌜ s ≤ mostStreams ⌝ }
     ensures { λ r. ⌜ Decides r (Bounded (now (look .entry)) (now (kept .entry)) s) ⌝ }
 {
     if zero_past(look, s) {
         if zero_past(kept, s) {
-            return numbers::sum(kept, s) <= 4096;
+            return numbers::sum(kept, s) <= limits::STORE_MOST;
         }
     }
     false
@@ -40,19 +43,20 @@ pub enum Noted {
 // Notes the edges of the equation of `y`, whose record is at `at`.
 fn note_equation(
     table: &[u8],
-    types: &[u8; 32],
+    types: &[u8; STREAMS_MOST],
     streams: usize,
     y: usize,
     at: usize,
-    look: &[u16; 32],
-    tight: &mut [u32; 32],
-    most: &mut [u32; 32],
+    look: &[u16; STREAMS_MOST],
+    tight: &mut [u32; STREAMS_MOST],
+    most: &mut [u32; STREAMS_MOST],
 ) -> Noted
-    requires { ⌜ (y < streams) × (streams ≤ 32) × (length (now types) ≡ 32) ⌝ }
-    ensures { λ r. ⌜ NotedEquation r (equationAt (take streams (now (types .entry))) (now (table .entry)) y at) y (of (now (look .entry))) (now (tight .entry)) (now (most .entry)) (now (tight .exit)) (now (most .exit)) ⌝ }
+    requires { ⌜ (y < streams) × Types streams (now types) ⌝ }
+    ensures { λ r. ⌜ NotedEquation r (equationAt (take streams (now (types .entry))) (now (table .entry)) y at) y (of (now (look .entry)))
+        (now (tight .entry)) (now (most .entry)) (now (tight .exit)) (now (most .exit)) ⌝ }
 {
-    let mut rise = [0u16; 32];
-    let mut fall = [0u16; 32];
+    let mut rise = [0u16; STREAMS_MOST];
+    let mut fall = [0u16; STREAMS_MOST];
     match table::scan_equation(table, types, streams, y, at, &mut rise, &mut fall) {
         Scanned::Refused(_, _) => Noted::Refused,
         Scanned::Ends(end) => {
@@ -69,21 +73,22 @@ fn note_equation(
 // `order` are lent for where their expressions start and for the order within a turn.
 fn judge(
     table: &[u8],
-    types: &[u8; 32],
+    types: &[u8; STREAMS_MOST],
     inputs: usize,
     streams: usize,
     at: usize,
-    look: &[u16; 32],
-    kept: &[u16; 32],
-    starts: &mut [u16; 32],
-    order: &mut [u8; 32],
+    look: &[u16; STREAMS_MOST],
+    kept: &[u16; STREAMS_MOST],
+    starts: &mut [u16; STREAMS_MOST],
+    order: &mut [u8; STREAMS_MOST],
 ) -> bool
-    requires { ⌜ (inputs ≤ streams) × (streams ≤ 32) × (length (now types) ≡ 32) × (length (now table) ≤ 4096) ⌝ }
-    ensures { λ r. ⌜ Judgement r (equationsAt (streams - inputs) inputs (take streams (now (types .entry))) (now (table .entry)) at) (length (now (table .entry))) inputs streams (of (now (look .entry))) (of (now (kept .entry))) (now (starts .exit)) (now (order .exit)) ⌝ }
+    requires { ⌜ (inputs ≤ streams) × Types streams (now types) × (length (now table) ≤ mostTable) ⌝ }
+    ensures { λ r. ⌜ Judgement r (equationsAt (streams - inputs) inputs (take streams (now (types .entry))) (now (table .entry)) at)
+        (length (now (table .entry))) inputs streams (of (now (look .entry))) (of (now (kept .entry))) (now (starts .exit)) (now (order .exit)) ⌝ }
 {
-    let mut tight = [0u32; 32];
-    let mut most = [0u32; 32];
-    *starts = [0u16; 32];
+    let mut tight = [0u32; STREAMS_MOST];
+    let mut most = [0u32; STREAMS_MOST];
+    *starts = [0u16; STREAMS_MOST];
     let mut y = inputs;
     let mut next = at;
     while y < streams {
@@ -127,14 +132,15 @@ fn unvouched() -> Found
 // roles, where their expressions start, and the order within a turn.
 pub fn vouch(
     table: &[u8],
-    look: &[u16; 32],
-    kept: &[u16; 32],
-    types: &mut [u8; 32],
-    roles: &mut [u8; 32],
-    starts: &mut [u16; 32],
-    order: &mut [u8; 32],
+    look: &[u16; STREAMS_MOST],
+    kept: &[u16; STREAMS_MOST],
+    types: &mut [u8; STREAMS_MOST],
+    roles: &mut [u8; STREAMS_MOST],
+    starts: &mut [u16; STREAMS_MOST],
+    order: &mut [u8; STREAMS_MOST],
 ) -> Found
-    ensures { λ r. ⌜ Verdict (r .ok) (now (table .entry)) (now (look .entry)) (now (kept .entry)) (vouchedBy r (now (types .exit)) (now (roles .exit)) (now (starts .exit)) (now (order .exit))) ⌝ }
+    ensures { λ r. ⌜ Verdict (r .ok) (now (table .entry)) (now (look .entry)) (now (kept .entry))
+        (vouchedBy r (now (types .exit)) (now (roles .exit)) (now (starts .exit)) (now (order .exit))) ⌝ }
 {
     let heading = table::scan_heading(table);
     if heading.number != 0 {

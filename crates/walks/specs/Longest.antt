@@ -7,6 +7,7 @@ use mathlib.Core.List.{List, [], _∷_}
 use lib.Dec.{eqb, ltb}
 use lib.IntN.{ℤ, pos, _+ℤ_}
 use lib.Signed.{ltZ}
+use Rattle.basis.specs.Notes.{rising, falling}
 use Rattle.basis.specs.Parts.{up, down}
 use Rattle.basis.specs.Edges.{Edge}
 
@@ -130,10 +131,10 @@ unfoldable pub noteOf : (ℤ → ℕ) → List Edge → ℕ → ℕ → ℕ
 noteOf m [] y v = 0
 noteOf m (e ∷ es) y v = max (noteOf m es y v) (cond (joins e y v) (m (e .weight)) 0)
 
--- 129 + the largest weight of an edge from y to v, 0 where there is none
+-- the note of the largest weight of an edge from y to v, 0 where there is none
 abbrev pub riseOf : List Edge → ℕ → ℕ → ℕ
-riseOf = noteOf (λ k. 129 + up k - down k)
+riseOf = noteOf rising
 
--- 128 - the smallest weight of an edge from y to v, 0 where there is none
+-- the note of the smallest weight of an edge from y to v, 0 where there is none
 abbrev pub fallOf : List Edge → ℕ → ℕ → ℕ
-fallOf = noteOf (λ k. 128 + down k - up k)
+fallOf = noteOf falling

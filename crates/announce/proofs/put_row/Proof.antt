@@ -1,19 +1,18 @@
 -- `put_row`: the loop has written the first v numbers of the row.
 -- Assumes nothing.
-use Prim.Native.Nat.{_+_, _*_, _-_, _≤_}
+use Prim.Native.Nat.{_-_, _≤_}
 use native.Mathlib.Omega.{arith}
 use borrow.Author.Needs.{needs}
-use mathlib.Core.Path.{_≡_}
-use lib.ListN.{length}
+use Rattle.limits.specs.Limits.{mostStreams}
 use Rattle.announce.proofs.Rows.{RowBegun, none-begun, one-more, row-put}
 use Rattle.announce.proofs.put_row.Statement.{statement}
 use Rattle.announce.proofs.put_row.Tie as tie
 
 abbrev Inv-loop : tie.InvT-loop
-Inv-loop all₀ y row v₀ all v = (v ≤ 32) × RowBegun all₀ y row v all
+Inv-loop all₀ y row v₀ all v = (v ≤ mostStreams) × RowBegun all₀ y row v all
 
 abbrev μ-loop : tie.MeasureT-loop
-μ-loop all₀ y row v₀ all v = 32 - v
+μ-loop all₀ y row v₀ all v = mostStreams - v
 
 loop-holds : tie.Need-loop-holds Inv-loop μ-loop
 loop-holds c = (search needs, none-begun)

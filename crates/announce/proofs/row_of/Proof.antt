@@ -1,19 +1,19 @@
 -- `row_of`: the first v numbers are those of the row y.
 -- Assumes nothing.
-use mathlib.Core.Path.{_≡_, refl}
-use Prim.Native.Nat.{ℕ, _+_, _*_, _-_, _≤_, _<_}
+use mathlib.Core.Path.{refl}
+use Prim.Native.Nat.{_-_, _≤_}
 use native.Mathlib.Omega.{arith}
 use borrow.Author.Needs.{needs}
-use lib.ListN.{length, getD}
+use Rattle.limits.specs.Limits.{mostStreams}
 use Rattle.announce.proofs.Rows.{RowTaken, none-taken, one-taken}
 use Rattle.announce.proofs.row_of.Statement.{statement}
 use Rattle.announce.proofs.row_of.Tie as tie
 
 abbrev Inv-loop : tie.InvT-loop
-Inv-loop all y row₀ v₀ row v = (v ≤ 32) × RowTaken all y v row
+Inv-loop all y row₀ v₀ row v = (v ≤ mostStreams) × RowTaken all y v row
 
 abbrev μ-loop : tie.MeasureT-loop
-μ-loop all y row₀ v₀ row v = 32 - v
+μ-loop all y row₀ v₀ row v = mostStreams - v
 
 loop-holds : tie.Need-loop-holds Inv-loop μ-loop
 loop-holds c = (search needs, none-taken refl)

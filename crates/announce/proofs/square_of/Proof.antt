@@ -3,16 +3,17 @@
 use Prim.Native.Nat.{_-_, _≤_}
 use native.Mathlib.Omega.{arith}
 use borrow.Author.Needs.{needs}
-use mathlib.Core.Path.{_≡_, refl}
+use mathlib.Core.Path.{refl}
+use Rattle.limits.specs.Limits.{mostStreams}
 use Rattle.announce.proofs.Cells.{SquareTo, no-rows, row-more}
 use Rattle.announce.proofs.square_of.Statement.{statement}
 use Rattle.announce.proofs.square_of.Tie as tie
 
 abbrev Inv-loop : tie.InvT-loop
-Inv-loop rise square₀ y₀ square y = (y ≤ 32) × SquareTo rise y square
+Inv-loop rise square₀ y₀ square y = (y ≤ mostStreams) × SquareTo rise y square
 
 abbrev μ-loop : tie.MeasureT-loop
-μ-loop rise square₀ y₀ square y = 32 - y
+μ-loop rise square₀ y₀ square y = mostStreams - y
 
 loop-holds : tie.Need-loop-holds Inv-loop μ-loop
 loop-holds c = (search needs, no-rows refl)

@@ -1,6 +1,5 @@
 -- `weigh_scan`: the square of the table's edges decides refusal 7, its numbers refusal 8.
 -- Assumes nothing.
-use native.Mathlib.Omega.{arith}
 use borrow.Author.Needs.{needs}
 use Rattle.announce.proofs.Weighing.{scan-bounds}
 use Rattle.announce.proofs.Numbers.{all-small, fitting, seven, weighed-numbers}

@@ -1,10 +1,10 @@
 -- `weights_of`: the loop has put the weights of the equations below y.
 -- Assumes nothing.
-use Prim.Native.Nat.{ℕ, _+_, _-_, _≤_, _<_}
+use Prim.Native.Nat.{_-_, _≤_}
 use native.Mathlib.Omega.{arith}
-use borrow.Author.Needs.{needs}
 use mathlib.Core.Path.{_≡_, refl, _∙_}
 use lib.ListN.{length}
+use Rattle.limits.specs.Limits.{mostStreams, mostPairs}
 use Rattle.table.specs.Table.{Table}
 use Rattle.announce.specs.Rows.{Arrays, WeighsTo}
 use Rattle.announce.proofs.Weighing.{weights-more, weights-all, arrays-of, scan-bounds, types-length, scanning-start}
@@ -13,7 +13,7 @@ use Rattle.announce.proofs.weights_of.Tie as tie
 
 abbrev Inv-loop : tie.InvT-loop
 Inv-loop table types starts streams rise₀ fall₀ y₀ rise fall y =
-    (y ≤ streams) × (streams ≤ 32) × (length rise ≡ 1024) × (length fall ≡ 1024) × ((t : Table) → Arrays table t types starts streams → (t .inputs ≤ y) × WeighsTo t y rise fall)
+    (y ≤ streams) × (streams ≤ mostStreams) × (length rise ≡ mostPairs) × (length fall ≡ mostPairs) × ((t : Table) → Arrays table t types starts streams → (t .inputs ≤ y) × WeighsTo t y rise fall)
 
 abbrev μ-loop : tie.MeasureT-loop
 μ-loop table types starts streams rise₀ fall₀ y₀ rise fall y = streams - y
@@ -26,14 +26,14 @@ loop-holds c =
 array-read-wanted : tie.Need-array-read-wanted Inv-loop μ-loop
 array-read-wanted c = omega (arith, c .before .loop .inv .1)
 
-mul-size : tie.Need-mul-size Inv-loop μ-loop
-mul-size c = omega (arith, c .before .loop .inv .1)
+mul-short-size : tie.Need-mul-short-size Inv-loop μ-loop
+mul-short-size c = omega (arith, c .before .loop .inv .1)
 
-array-read-size : tie.Need-array-read-size Inv-loop μ-loop
-array-read-size c = omega (arith, c .before .loop .inv .1)
+array-read-short-size : tie.Need-array-read-short-size Inv-loop μ-loop
+array-read-short-size c = omega (arith, c .before .loop .inv .1)
 
-size-requires : tie.Need-size-requires Inv-loop μ-loop
-size-requires c κs = tt
+short-size-requires : tie.Need-short-size-requires Inv-loop μ-loop
+short-size-requires c κs = tt
 
 scan-expr-requires : tie.Need-scan-expr-requires Inv-loop μ-loop
 scan-expr-requires c κs = (c .before .before .before .before .before .loop .inv .1, types-length (c .before .before .before .before .before .before .before .before .before .pre))
@@ -57,7 +57,7 @@ loop-again c = (
   c .before .before .before .put-row .ensures .size ∙ c .before .before .before .before .before .before .before .before .before .before .before .before .loop .inv .2,
   c .put-row2 .ensures .size ∙ c .before .before .before .before .before .before .before .before .before .before .before .before .loop .inv .3,
   λ t a. let w = c .before .before .before .before .before .before .before .before .before .before .before .before .loop .inv .4 t a in
-      (omega (arith, w .0), weights-more a (w .0) (c .before .before .before .before .before .before .before .before .before .before .before .loop-test .taken) (w .1) refl (c .before .before .before .before .before .before .before .before .before .before .size .ensures .0) (c .before .before .before .before .before .before .scan-expr .ensures) (c .before .before .before .put-row .ensures) (c .put-row2 .ensures)),
+      (omega (arith, w .0), weights-more a (w .0) (c .before .before .before .before .before .before .before .before .before .before .before .loop-test .taken) (w .1) refl (c .before .before .before .before .before .before .before .before .before .before .short-size .ensures .0) (c .before .before .before .before .before .before .scan-expr .ensures) (c .before .before .before .put-row .ensures) (c .put-row2 .ensures)),
 )
 
 returns : tie.Need-returns Inv-loop μ-loop
@@ -71,9 +71,9 @@ weights-of-spec =
     μ-loop
     loop-holds
     array-read-wanted
-    mul-size
-    array-read-size
-    size-requires
+    mul-short-size
+    array-read-short-size
+    short-size-requires
     scan-expr-requires
     put-row-requires
     put-row-requires-2

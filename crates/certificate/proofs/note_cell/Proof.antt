@@ -6,13 +6,13 @@ use Rattle.certificate.proofs.note_cell.Statement.{statement}
 use Rattle.certificate.proofs.note_cell.Tie as tie
 
 returns : tie.Need-returns
-returns c = read-none (c .before .wide .ensures .0) (c .if1 .taken)
+returns c = read-none (c .before .short-word .ensures .0) (c .if1 .taken)
 
 returns-2 : tie.Need-returns-2
-returns-2 c = read-lacks (c .before .before .before .before .before .before .wide .ensures .0) (c .before .before .before .wide2 .ensures .0) (c .before .wide3 .ensures .0) (c .before .before .before .before .before .if1 .left) (c .if2 .taken)
+returns-2 c = read-lacks (c .before .before .before .before .before .before .short-word .ensures .0) (c .before .before .before .short-word2 .ensures .0) (c .before .short-word3 .ensures .0) (c .before .before .before .before .before .if1 .left) (c .if2 .taken)
 
 returns-3 : tie.Need-returns-3
-returns-3 c = read-noted (c .before .before .before .before .before .before .before .before .before .before .before .before .wide .ensures .0) (c .before .before .before .before .before .before .before .before .before .wide2 .ensures .0) (c .before .before .before .before .before .before .before .wide3 .ensures .0) (c .before .before .before .before .before .before .before .before .before .before .before .if1 .left) (search needs) (search needs) (c .before .wide4 .ensures .0) (c .before .before .before .before .before .before .if2 .left) (c .before .before .before .before .mark .ensures) (c .looser .ensures)
+returns-3 c = read-noted (c .before .before .before .before .before .before .before .before .before .before .before .before .short-word .ensures .0) (c .before .before .before .before .before .before .before .before .before .short-word2 .ensures .0) (c .before .before .before .before .before .before .before .short-word3 .ensures .0) (c .before .before .before .before .before .before .before .before .before .before .before .if1 .left) (search needs) (search needs) (c .before .short-word4 .ensures .0) (c .before .before .before .before .before .before .if2 .left) (c .before .before .before .before .mark .ensures) (c .looser .ensures)
 
 pub note-cell-spec : {M : Type 1} → statement M
 note-cell-spec =

@@ -3,8 +3,8 @@
 use mathlib.Core.List.{List}
 use Prim.Native.Nat.{_-_, _≤_}
 use borrow.Author.Needs.{needs}
+use Rattle.basis.specs.Firsts.{of}
 use Rattle.basis.specs.Edges.{Edge, among}
-use Rattle.certificate.specs.Certificate.{of}
 use Rattle.certificate.specs.Tally.{Row, Tally, Upto}
 use Rattle.certificate.proofs.Tally.{row-start, row-end}
 use Rattle.certificate.proofs.note_row.Statement.{statement}

@@ -13,9 +13,9 @@ use Rattle.evaluate.proofs.eval.Reads as eval
 use Rattle.evaluate.proofs.eval.Kinds as eval-kinds
 use Rattle.evaluate.proofs.+eval.Lts-eval as eval-lts
 use Rattle.evaluate.proofs.behind.Reads as behind-reads
-use Rattle.evaluate.proofs.held.Reads as held-reads
+use Rattle.store.proofs.read.Reads as read-reads
 use Rattle.evaluate.proofs.referred.Reads as referred-reads
-use Rattle.evaluate.proofs.size.Reads as size-reads
+use Rattle.wire.proofs.byte_size.Reads as byte-size-reads
 use Rattle.evaluate.proofs.valued.Reads as valued-reads
 use Rattle.node.proofs.node_of.Reads as node-of-reads
 use Rattle.node.proofs.rule_of.Reads as rule-of-reads
@@ -35,7 +35,7 @@ abbrev eval-below : ℕ → In 5 eval-kinds.ps
 eval-below t = and 5 eval-kinds.ps (falls 5 eval-kinds.ps _<_ μ-eval t) eval.Pre
 
 abbrev calls : ℕ → eval-lts.Claims
-calls t = (node-of-reads.Asked, node-of-reads.Learnt, reading-reads.Asked, reading-reads.Learnt, behind-reads.Asked, behind-reads.Learnt, valued-reads.Asked, valued-reads.Learnt, size-reads.Asked, size-reads.Learnt, held-reads.Asked, held-reads.Learnt, referred-reads.Asked, referred-reads.Learnt, rule-of-reads.Asked, rule-of-reads.Learnt, eval-below t, eval.Post, apply-reads.Asked, apply-reads.Learnt, choose-reads.Asked, choose-reads.Learnt)
+calls t = (node-of-reads.Asked, node-of-reads.Learnt, reading-reads.Asked, reading-reads.Learnt, behind-reads.Asked, behind-reads.Learnt, valued-reads.Asked, valued-reads.Learnt, byte-size-reads.Asked, byte-size-reads.Learnt, read-reads.Asked, read-reads.Learnt, referred-reads.Asked, referred-reads.Learnt, rule-of-reads.Asked, rule-of-reads.Learnt, eval-below t, eval.Post, apply-reads.Asked, apply-reads.Learnt, choose-reads.Asked, choose-reads.Learnt)
 
 eval-shared-slice-read-kind : (t : ℕ) → eval-lts.Need-shared-slice-read-kind (calls t) (eval-at t) eval.Post
 eval-shared-slice-read-kind t c = standing-at (c .before .before .before .pre .1 .1) .inside
@@ -49,14 +49,14 @@ eval-node-of-requires t c κs = standing-at (c .before .before .before .pre .1 .
 eval-behind-requires : (t : ℕ) → eval-lts.Need-behind-requires (calls t) (eval-at t) eval.Post
 eval-behind-requires t c κs = omega (arith, standing-at (c .before .before .before .before .before .before .before .before .pre .1 .1) .body)
 
-eval-held-requires : (t : ℕ) → eval-lts.Need-held-requires (calls t) (eval-at t) eval.Post
-eval-held-requires t c κs = rw (c .size .ensures) (now-named (c .before .before .before .before .before .before .before .before .pre .1 .1) (c .before .before .before .before .node-of .ensures) (c .before .before .v .given .1))
+eval-read-requires : (t : ℕ) → eval-lts.Need-read-requires (calls t) (eval-at t) eval.Post
+eval-read-requires t c κs = rw (c .byte-size .ensures .0) (now-named (c .before .before .before .before .before .before .before .before .pre .1 .1) (c .before .before .before .before .node-of .ensures) (c .before .before .v .given .1))
 
 eval-behind-requires-2 : (t : ℕ) → eval-lts.Need-behind-requires-2 (calls t) (eval-at t) eval.Post
 eval-behind-requires-2 t c κs = omega (arith, standing-at (c .before .before .before .before .before .before .before .before .before .pre .1 .1) .body)
 
 eval-referred-requires : (t : ℕ) → eval-lts.Need-referred-requires (calls t) (eval-at t) eval.Post
-eval-referred-requires t c κs = ((c .before .before .before .before .before .before .before .before .pre .1 .0), rw (c .size2 .ensures) (at-named (c .before .before .before .before .before .before .before .before .pre .1 .1) (c .before .before .before .before .node-of .ensures) (c .before .before .v2 .given .1)))
+eval-referred-requires t c κs = ((c .before .before .before .before .before .before .before .before .pre .1 .0), rw (c .byte-size2 .ensures .0) (at-named (c .before .before .before .before .before .before .before .before .pre .1 .1) (c .before .before .before .before .node-of .ensures) (c .before .before .v2 .given .1)))
 
 eval-behind-requires-3 : (t : ℕ) → eval-lts.Need-behind-requires-3 (calls t) (eval-at t) eval.Post
 eval-behind-requires-3 t c κs = omega (arith, standing-at (c .before .before .before .before .before .before .before .before .before .pre .1 .1) .body)
@@ -86,10 +86,10 @@ eval-returns-3 : (t : ℕ) → eval-lts.Need-returns-3 (calls t) (eval-at t) eva
 eval-returns-3 t c = λ x. c .valued .ensures ∙ constant-gives (c .before .before .before .before .before .before .before .before .before .before .args .store .now) (c .before .before .before .before .before .before .before .before .before .before .args .known) (c .before .before .before .before .before .before .before .before .before .before .args .j) x (c .before .before .before .before .before .before .node-of .ensures) (c .before .behind .ensures) (c .before .before .before .before .t .given .1) (c .before .before .reading .ensures)
 
 eval-returns-4 : (t : ℕ) → eval-lts.Need-returns-4 (calls t) (eval-at t) eval.Post
-eval-returns-4 t c = λ x. c .valued2 .ensures ∙ now-gives (c .before .before .before .before .before .before .before .before .before .before .before .args .store .now) (c .before .before .before .before .before .before .before .before .before .before .before .args .known) (c .before .before .before .before .before .before .before .before .before .before .before .args .j) x (c .before .before .before .before .before .before .before .node-of .ensures) (c .before .behind2 .ensures) (c .before .before .before .before .before .v .given .1) (rw (c .before .before .before .size .ensures) at (c .before .before .held .ensures))
+eval-returns-4 t c = λ x. c .valued2 .ensures ∙ now-gives (c .before .before .before .before .before .before .before .before .before .before .before .args .store .now) (c .before .before .before .before .before .before .before .before .before .before .before .args .known) (c .before .before .before .before .before .before .before .before .before .before .before .args .j) x (c .before .before .before .before .before .before .before .node-of .ensures) (c .before .behind2 .ensures) (c .before .before .before .before .before .v .given .1) (rw (c .before .before .before .byte-size .ensures .0) at (c .before .before .read .ensures))
 
 eval-returns-5 : (t : ℕ) → eval-lts.Need-returns-5 (calls t) (eval-at t) eval.Post
-eval-returns-5 t c = λ x. c .valued3 .ensures ∙ at-gives (c .before .before .before .before .before .before .before .before .before .before .before .args .store .now) (c .before .before .before .before .before .before .before .before .before .before .before .args .known) (c .before .before .before .before .before .before .before .before .before .before .before .args .j) x (c .before .before .before .before .before .before .before .node-of .ensures) (c .before .behind3 .ensures) (c .before .before .before .before .before .v2 .given .1) (rw (c .before .before .before .size2 .ensures, toZ-ofZ (record { sfits = c .before .before .before .before .known-told3 .given .1 .0 .1 })) at (c .before .before .referred .ensures))
+eval-returns-5 t c = λ x. c .valued3 .ensures ∙ at-gives (c .before .before .before .before .before .before .before .before .before .before .before .args .store .now) (c .before .before .before .before .before .before .before .before .before .before .before .args .known) (c .before .before .before .before .before .before .before .before .before .before .before .args .j) x (c .before .before .before .before .before .before .before .node-of .ensures) (c .before .behind3 .ensures) (c .before .before .before .before .before .v2 .given .1) (rw (c .before .before .before .byte-size2 .ensures .0, toZ-ofZ (record { sfits = c .before .before .before .before .known-told3 .given .1 .0 .1 })) at (c .before .before .referred .ensures))
 
 eval-returns-6 : (t : ℕ) → eval-lts.Need-returns-6 (calls t) (eval-at t) eval.Post
 eval-returns-6 t c = λ x. c .valued6 .ensures ∙ three-give (c .before .before .before .before .before .before .before .before .before .before .before .before .before .before .before .before .args .store .now) (c .before .before .before .before .before .before .before .before .before .before .before .before .before .before .before .before .args .known) (c .before .before .before .before .before .before .before .before .before .before .before .before .before .before .before .before .args .j) x (c .before .before .before .before .before .before .before .before .before .before .before .before .node-of .ensures) (c .before .before .before .before .before .before .before .before .before .before .op .given .1) (c .before .before .before .before .before .before .before .before .rule-of .ensures) (c .before .before .before .before .before .before .before .behind4 .ensures) (c .before .before .before .before .before .before .eval .ensures) (c .before .before .before .before .before .if1 .left) (c .before .before .before .before .eval2 .ensures) (c .before .before .before .if2 .left) (c .before .before .eval3 .ensures) (c .before .choose .ensures)
@@ -107,7 +107,7 @@ pub +eval-spec : {M : Type 1} → statement M
     (λ c κs. search needs)
     (λ c. search needs)
     (λ c κs. search needs)
-    (eval-held-requires t)
+    (eval-read-requires t)
     (eval-behind-requires-2 t)
     (λ c κs. search needs)
     (λ c. search needs)

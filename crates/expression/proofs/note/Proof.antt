@@ -3,7 +3,7 @@
 use mathlib.Core.Path.{ap, _∙_}
 use borrow.Author.Needs.{needs}
 use mir.Facts.{toZ-ofZ}
-use Rattle.expression.specs.References.{rising, falling}
+use Rattle.basis.specs.Notes.{rising, falling}
 use Rattle.expression.proofs.Notes.{constant-noted, operator-noted, now-noted, at-noted, rising-now, falling-now, now-target, at-target}
 use Rattle.expression.proofs.note.Statement.{statement}
 use Rattle.expression.proofs.note.Tie as tie

@@ -5,6 +5,7 @@ use native.Mathlib.Omega.{arith}
 use mathlib.Core.Path.{_≡_, sym}
 use lib.ListN.{length}
 use lib.Seq.{length-take-le}
+use Rattle.records.specs.Kinds.{mostRoom}
 use Rattle.feed.proofs.Answers.{row-count, reached-by}
 use Rattle.feed.proofs.answer_row.Statement.{statement}
 use Rattle.feed.proofs.answer_row.Tie as tie
@@ -16,8 +17,8 @@ slice-aggregate-row c =
 
 put-answer-requires : tie.Need-put-answer-requires
 put-answer-requires c κs =
-    let e : length (c .before .before .before .before .before .row .last .1 .1 .1 .1 .0) ≡ 496 = search needs in
-    let h : (c .before .before .before .before .before .row .result .count) ≤ 496 = row-count _ _ _ _ _ e (c .before .before .before .before .before .row .ensures) in
+    let e : length (c .before .before .before .before .before .row .last .1 .1 .1 .1 .0) ≡ mostRoom = search needs in
+    let h : (c .before .before .before .before .before .row .result .count) ≤ mostRoom = row-count _ _ _ _ _ e (c .before .before .before .before .before .row .ensures) in
     omega arith
 
 returns : tie.Need-returns

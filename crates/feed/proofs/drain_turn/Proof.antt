@@ -4,14 +4,15 @@ use borrow.Author.Needs.{needs}
 use native.Mathlib.Omega.{arith}
 use mathlib.Core.Path.{_≡_}
 use lib.ListN.{length}
+use Rattle.records.specs.Kinds.{mostRoom}
 use Rattle.feed.proofs.Answers.{drain-count, reached-by}
 use Rattle.feed.proofs.drain_turn.Statement.{statement}
 use Rattle.feed.proofs.drain_turn.Tie as tie
 
 put-answer-requires : tie.Need-put-answer-requires
 put-answer-requires c κs =
-    let e : length (c .before .before .before .before .before .drain .last .1 .1 .1 .0) ≡ 496 = search needs in
-    let h : (c .before .before .before .before .before .drain .result .count) ≤ 496 = drain-count _ _ _ _ e (c .before .before .before .before .before .drain .ensures) in
+    let e : length (c .before .before .before .before .before .drain .last .1 .1 .1 .0) ≡ mostRoom = search needs in
+    let h : (c .before .before .before .before .before .drain .result .count) ≤ mostRoom = drain-count _ _ _ _ e (c .before .before .before .before .before .drain .ensures) in
     omega arith
 
 returns : tie.Need-returns

@@ -1,7 +1,5 @@
 -- Each return is a case of the definition. Assumes nothing.
 use borrow.Author.Needs.{needs}
-use mathlib.Core.Path.{_∙_, ap}
-use Rattle.feed.specs.Head.{lengthOf}
 use Rattle.feed.proofs.Heads.{head-empty, head-other, head-short, head-whole, length-none, length-over, length-fine}
 use Rattle.feed.proofs.head_of.Statement.{statement}
 use Rattle.feed.proofs.head_of.Tie as tie

@@ -1,6 +1,5 @@
 -- The loop's invariant: the lent slices keep their lengths. The measure is the number of pieces left.
 -- Assumes nothing.
-use Prim.Native.Nat.{_≤_}
 use borrow.Author.Needs.{needs}
 use native.Mathlib.Omega.{arith}
 use mathlib.Core.Path.{_≡_, refl}

@@ -1,7 +1,7 @@
 -- The table is the front of its buffer. Assumes nothing.
 use borrow.Author.Needs.{needs}
 use native.Mathlib.Omega.{arith}
-use mathlib.Core.Path.{_≡_, sym}
+use mathlib.Core.Path.{sym}
 use lib.ListN.{length, length-take, length-append, length-drop}
 use lib.Seq.{length-take-le}
 use Rattle.glasspuddle.proofs.read_table.Statement.{statement}

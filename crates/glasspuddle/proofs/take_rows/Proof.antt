@@ -1,6 +1,6 @@
 -- The loop's invariant: the part row that is left is short, the count of bytes read fits, and the lent slices keep their lengths. The
 -- measure falls by a read of some bytes, and by the read that has none. Assumes nothing.
-use Prim.Native.Nat.{_+_, _*_, _-_, _≤_, _^_, min}
+use Prim.Native.Nat.{_+_, _*_, _-_, _≤_, min}
 use borrow.Author.Needs.{needs}
 use borrow.Author.Tests.{leb-true}
 use native.Mathlib.Omega.{arith}

@@ -1,6 +1,6 @@
 -- `level::is_nan_bits` meets its contract: each arm is the law `by-fields` at what the test found.
 -- Assumes nothing.
-use mathlib.Core.Path.{_≡_, sym, ap, _∙_}
+use mathlib.Core.Path.{sym, ap, _∙_}
 use mathlib.Core.Bool.{Bool, not, _&&_}
 use lib.Dec.{eqb}
 use lib.Bits.{bitAnd}

@@ -11,7 +11,7 @@ use Rattle.lines.proofs.Decimals.{decimal-below-ten, decimal-by-last-di
 use Rattle.lines.proofs.put_decimal.Reads as put-decimal
 use Rattle.lines.proofs.put_decimal.Kinds as put-decimal-kinds
 use Rattle.lines.proofs.+put_decimal.Lts-put_decimal as lts
-use Rattle.lines.proofs.put_byte.Reads as put-byte-reads
+use Rattle.wire.proofs.put_byte.Reads as put-byte-reads
 use Rattle.lines.proofs.+put_decimal.{statement}
 use Rattle.lines.proofs.+put_decimal.Tie.{close}
 

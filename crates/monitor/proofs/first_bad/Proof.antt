@@ -5,7 +5,7 @@ use native.Mathlib.Omega.{arith}
 use borrow.Author.Needs.{needs}
 use mathlib.Core.Logic.{⊎-elim}
 use Prim.Native.Nat.{_-_, _≤_}
-use Rattle.plan.specs.PlanFor.{firstBad}
+use Rattle.prepare.specs.PlanFor.{firstBad}
 use Rattle.monitor.proofs.Tests.{bad-here, good-word, other-type, none-bad, all-inputs}
 use Rattle.monitor.proofs.first_bad.Statement.{statement}
 use Rattle.monitor.proofs.first_bad.Tie as tie

@@ -8,6 +8,8 @@ use borrow.Author.Tests.{eq-eqb, ne-eqb, lt-ltb, le-ltb}
 use lib.ListN.{length, getD, take}
 use lib.Seq.{length-take-le, getD-take}
 use lib.IntN.{ℤ}
+use Rattle.limits.specs.Limits.{mostStreams}
+use Rattle.limits.specs.Refusals.{wrongField}
 use Rattle.node.specs.Kinds.{ruleOf, meant}
 use Rattle.node.specs.Node.{faultOf, first, typeFault, wordFault, zeroFault}
 use Rattle.node.specs.declared.Rule.{Rule}
@@ -40,16 +42,16 @@ module _ (ts : List ℕ) (w : ℕ) {node : Node} where
   op-ok e f g = rw (e, ← f, g)
 
   module _ {n v i : ℕ} where
-    now-ok : node ≡ Now v → i ≡ v → n ≤ 32 → length ts ≡ 32 → i < n → typeFault (getD ts i 0) w ≡ faultOf (take n ts) w node
+    now-ok : node ≡ Now v → i ≡ v → n ≤ mostStreams → length ts ≡ mostStreams → i < n → typeFault (getD ts i 0) w ≡ faultOf (take n ts) w node
     unfolding faultOf
     now-ok e f l le h = rw (e, ← f, length-take-le n ts (omega arith), lt-ltb _ _ h, getD-take)
 
-    now-bad : node ≡ Now v → i ≡ v → n ≤ 32 → length ts ≡ 32 → n ≤ i → 4 ≡ faultOf (take n ts) w node
+    now-bad : node ≡ Now v → i ≡ v → n ≤ mostStreams → length ts ≡ mostStreams → n ≤ i → wrongField ≡ faultOf (take n ts) w node
     unfolding faultOf
     now-bad e f l le h = rw (e, ← f, length-take-le n ts (omega arith), le-ltb _ _ h)
 
-    module _ {k : ℤ} {d : ℕ} (e : node ≡ At v k d) (f : i ≡ v) (l : n ≤ 32) (le : length ts ≡ 32) where
-      at-bad : n ≤ i → 4 ≡ faultOf (take n ts) w node
+    module _ {k : ℤ} {d : ℕ} (e : node ≡ At v k d) (f : i ≡ v) (l : n ≤ mostStreams) (le : length ts ≡ mostStreams) where
+      at-bad : n ≤ i → wrongField ≡ faultOf (take n ts) w node
       unfolding faultOf
       at-bad h = rw (e, ← f, length-take-le n ts (omega arith), le-ltb _ _ h)
 
@@ -67,7 +69,7 @@ module _ (ts : List ℕ) (w : ℕ) {node : Node} where
         at-ok nz q na = rw (e, ← f, length-take-le n ts (omega arith), lt-ltb _ _ h, getD-take, ← p, ← q, first-next _ nz) (sym (first-next _ na))
 
 returns : tie.Need-returns
-returns c = at-bad _ _ (c .before .before .before .node3 .given .1) (c .before .size2 .ensures) (c .before .before .before .before .before .pre .0) (c .before .before .before .before .before .pre .1) (c .if3 .taken)
+returns c = at-bad _ _ (c .before .before .before .node3 .given .1) (c .before .byte-size2 .ensures .0) (c .before .before .before .before .before .pre .0) (c .before .before .before .before .before .pre .1) (c .if3 .taken)
 
 returns-2 : tie.Need-returns-2
 returns-2 c = c .type-fault .ensures ∙ const-ok _ _ (c .before .before .before .before .node .given .1) (c .before .before .word-fault .ensures) (c .before .if1 .taken)
@@ -76,19 +78,19 @@ returns-3 : tie.Need-returns-3
 returns-3 c = const-bad _ _ (c .before .before .before .node .given .1) (c .before .word-fault .ensures) (c .if1 .left)
 
 returns-4 : tie.Need-returns-4
-returns-4 c = c .type-fault2 .ensures ∙ now-ok _ _ (c .before .before .before .before .before .node2 .given .1) (c .before .before .before .size .ensures) (c .before .before .before .before .before .before .before .pre .0) (c .before .before .before .before .before .before .before .pre .1) (c .before .before .if2 .taken)
+returns-4 c = c .type-fault2 .ensures ∙ now-ok _ _ (c .before .before .before .before .before .node2 .given .1) (c .before .before .before .byte-size .ensures .0) (c .before .before .before .before .before .before .before .pre .0) (c .before .before .before .before .before .before .before .pre .1) (c .before .before .if2 .taken)
 
 returns-5 : tie.Need-returns-5
-returns-5 c = now-bad _ _ (c .before .before .before .node2 .given .1) (c .before .size .ensures) (c .before .before .before .before .before .pre .0) (c .before .before .before .before .before .pre .1) (c .if2 .left)
+returns-5 c = now-bad _ _ (c .before .before .before .node2 .given .1) (c .before .byte-size .ensures .0) (c .before .before .before .before .before .pre .0) (c .before .before .before .before .before .pre .1) (c .if2 .left)
 
 returns-6 : tie.Need-returns-6
-returns-6 c = c .type-fault3 .ensures ∙ at-ok _ _ (c .before .before .before .before .before .before .before .before .before .node3 .given .1) (c .before .before .before .before .before .before .before .size2 .ensures) (c .before .before .before .before .before .before .before .before .before .before .before .pre .0) (c .before .before .before .before .before .before .before .before .before .before .before .pre .1) (c .before .before .before .before .before .before .if3 .left) (c .before .before .before .before .zero-fault .ensures ∙ ap zeroFault (search needs)) (c .before .before .before .if4 .taken) (c .before .before .word-fault2 .ensures) (c .before .if5 .taken)
+returns-6 c = c .type-fault3 .ensures ∙ at-ok _ _ (c .before .before .before .before .before .before .before .before .before .node3 .given .1) (c .before .before .before .before .before .before .before .byte-size2 .ensures .0) (c .before .before .before .before .before .before .before .before .before .before .before .pre .0) (c .before .before .before .before .before .before .before .before .before .before .before .pre .1) (c .before .before .before .before .before .before .if3 .left) (c .before .before .before .before .zero-fault .ensures ∙ ap zeroFault (search needs)) (c .before .before .before .if4 .taken) (c .before .before .word-fault2 .ensures) (c .before .if5 .taken)
 
 returns-7 : tie.Need-returns-7
-returns-7 c = at-word _ _ (c .before .before .before .before .before .before .before .before .node3 .given .1) (c .before .before .before .before .before .before .size2 .ensures) (c .before .before .before .before .before .before .before .before .before .before .pre .0) (c .before .before .before .before .before .before .before .before .before .before .pre .1) (c .before .before .before .before .before .if3 .left) (c .before .before .before .zero-fault .ensures ∙ ap zeroFault (search needs)) (c .before .before .if4 .taken) (c .before .word-fault2 .ensures) (c .if5 .left)
+returns-7 c = at-word _ _ (c .before .before .before .before .before .before .before .before .node3 .given .1) (c .before .before .before .before .before .before .byte-size2 .ensures .0) (c .before .before .before .before .before .before .before .before .before .before .pre .0) (c .before .before .before .before .before .before .before .before .before .before .pre .1) (c .before .before .before .before .before .if3 .left) (c .before .before .before .zero-fault .ensures ∙ ap zeroFault (search needs)) (c .before .before .if4 .taken) (c .before .word-fault2 .ensures) (c .if5 .left)
 
 returns-8 : tie.Need-returns-8
-returns-8 c = at-zero _ _ (c .before .before .before .before .before .before .node3 .given .1) (c .before .before .before .before .size2 .ensures) (c .before .before .before .before .before .before .before .before .pre .0) (c .before .before .before .before .before .before .before .before .pre .1) (c .before .before .before .if3 .left) (c .before .zero-fault .ensures ∙ ap zeroFault (search needs)) (c .if4 .left)
+returns-8 c = at-zero _ _ (c .before .before .before .before .before .before .node3 .given .1) (c .before .before .before .before .byte-size2 .ensures .0) (c .before .before .before .before .before .before .before .before .pre .0) (c .before .before .before .before .before .before .before .before .pre .1) (c .before .before .before .if3 .left) (c .before .zero-fault .ensures ∙ ap zeroFault (search needs)) (c .if4 .left)
 
 returns-9 : tie.Need-returns-9
 returns-9 c = c .type-fault4 .ensures ∙ op-ok _ _ (c .before .before .before .before .node4 .given .1) (c .before .before .rule-of .ensures) (c .before .meant-type .ensures)

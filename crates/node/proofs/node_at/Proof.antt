@@ -6,6 +6,7 @@ use Prim.Native.Nat.{ℕ, _+_, _<_}
 use native.Mathlib.Omega.{arith}
 use borrow.Author.Tests.{eq-eqb, ne-eqb, lt-ltb, le-ltb}
 use lib.ListN.{length, getD}
+use Rattle.limits.specs.Refusals.{wrongKind}
 use Rattle.node.specs.Kinds.{ruleOf}
 use Rattle.node.specs.Node.{wholeAt, nodeBy, nodeAt}
 use Rattle.node.specs.declared.Rule.{Rule}
@@ -16,7 +17,7 @@ use Rattle.node.proofs.node_at.Statement.{statement}
 use Rattle.node.proofs.node_at.Tie as tie
 
 module _ (s : List ℕ) (at : ℕ) {r : Rule} (h : at < length s) (e : r ≡ ruleOf (getD s at 0)) where
-  no-node : r .form ≡ 0 → Fault 3 ≡ nodeAt s at
+  no-node : r .form ≡ 0 → Fault wrongKind ≡ nodeAt s at
   unfolding nodeAt nodeBy
   no-node z = simp (lt-ltb _ _ h, ← e, eq-eqb _ _ z)
 

@@ -10,7 +10,8 @@ use mir.Facts.{toZ-ofZ}
 use lib.ListN.{getD}
 use lib.IntN.{ℤ}
 use Rattle.node.specs.Kinds.{ruleOf, rows, look}
-use Rattle.node.specs.Node.{nodeOf, wordAt, signedOf}
+use Rattle.wire.specs.Bytes.{wordAt}
+use Rattle.node.specs.Node.{nodeOf, signedOf}
 use Rattle.node.specs.declared.Node.the-variants.{Constant, Now, At}
 use borrow.Author.Needs.{needs}
 use Rattle.node.proofs.node_of.Statement.{statement}
@@ -41,9 +42,9 @@ is-20 : (s : List ℕ) (k at : ℕ) {z : ℤ} {d : ℕ} → k ≡ 20 → z ≡ s
 unfolding nodeOf
 is-20 s k at e f g = rw (e, f, g)
 
-shared-slice-read-wide : tie.Need-shared-slice-read-wide
+shared-slice-read-byte-word : tie.Need-shared-slice-read-byte-word
 unfolding ruleOf rows look
-shared-slice-read-wide c = omega (arith, body-at _ 16 (c .before .if1 .taken))
+shared-slice-read-byte-word c = omega (arith, body-at _ 16 (c .before .if1 .taken))
 
 word-at-requires : tie.Need-word-at-requires
 unfolding ruleOf rows look
@@ -70,7 +71,7 @@ unfolding ruleOf rows look
 word-at-requires-3 c κs = omega (arith, body-at _ 20 (c .before .before .before .if5 .taken))
 
 returns : tie.Need-returns
-returns c = ap (Constant 0) (c .wide .ensures) ∙ is-16 _ _ _ (c .before .before .if1 .taken)
+returns c = ap (Constant 0) (c .byte-word .ensures .0) ∙ is-16 _ _ _ (c .before .before .if1 .taken)
 
 returns-2 : tie.Need-returns-2
 returns-2 c = ap (Constant 1) (c .word-at .ensures) ∙ is-17 _ _ _ (c .before .if2 .taken)
@@ -93,7 +94,7 @@ pub node-of-spec : {M : Type 1} → statement M
 node-of-spec =
     tie.close
     (tie.spec
-    shared-slice-read-wide
+    shared-slice-read-byte-word
     (λ c κs. search needs)
     word-at-requires
     word-at-requires-2

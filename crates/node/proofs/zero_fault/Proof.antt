@@ -1,4 +1,4 @@
--- `table::zero_fault` meets its contract: of a signed number the test says that its bits are 0.
+-- `node::zero_fault` meets its contract: of a signed number the test says that its bits are 0.
 -- Assumes nothing.
 use mathlib.Core.Path.{_≡_, refl}
 use Prim.Native.Nat.{zero, suc}
@@ -6,11 +6,12 @@ use native.Mathlib.Omega.{arith}
 use lib.IntN.{ℤ, pos, negsuc}
 use mir.Syntax.{w8}
 use mir.Val.{SFits, ofZ}
+use Rattle.limits.specs.Refusals.{wrongField}
 use Rattle.node.specs.Node.{zeroFault}
 use Rattle.node.proofs.zero_fault.Statement.{statement}
 use Rattle.node.proofs.zero_fault.Tie as tie
 
-zeroed : (k : ℤ) → SFits w8 k → ofZ w8 k ≡ 0 → 4 ≡ zeroFault k
+zeroed : (k : ℤ) → SFits w8 k → ofZ w8 k ≡ 0 → wrongField ≡ zeroFault k
 unfolding zeroFault
 zeroed (pos zero) f e = refl
 zeroed (pos (suc n)) f e = absurd (omega arith)

@@ -10,17 +10,18 @@ use lib.IntN.{ℤ}
 use mir.Syntax.{w64}
 use mir.Val.{toZ, ofZ}
 use mir.Facts.{toZ-ofZ}
+use Rattle.limits.specs.Limits.{mostStreams}
 use Rattle.walks.specs.Longest.{plus, supTo}
 use Rattle.square.specs.Square.{NO, best, at, cell}
-use Rattle.square.proofs.Rows.{put-more}
+use Rattle.basis.proofs.Firsts.{put-more}
 use Rattle.square.proofs.edge_more.Statement.{statement}
 use Rattle.square.proofs.edge_more.Tie as tie
 
 abbrev Inv-loop : tie.InvT-loop
-Inv-loop line s d out₀ i₀ out i = (i ≤ 32) × (length out ≡ 32) × ((m : ℕ) → m < i → at out m ≡ supTo (λ x. plus (cell d m x) (at line x)) s)
+Inv-loop line s d out₀ i₀ out i = (i ≤ mostStreams) × (length out ≡ mostStreams) × ((m : ℕ) → m < i → at out m ≡ supTo (λ x. plus (cell d m x) (at line x)) s)
 
 abbrev μ-loop : tie.MeasureT-loop
-μ-loop line s d out₀ i₀ out i = 32 - i
+μ-loop line s d out₀ i₀ out i = mostStreams - i
 
 loop-holds : tie.Need-loop-holds Inv-loop μ-loop
 loop-holds c = (search needs, search needs, λ i h. absurd (not-suc-le-zero h))

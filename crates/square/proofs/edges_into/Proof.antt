@@ -10,16 +10,18 @@ use lib.ListN.{length, getD}
 use lib.IntN.{ℤ, pos}
 use mir.Syntax.{w64}
 use mir.Val.{toZ, ofZ}
+use Rattle.limits.specs.Limits.{mostStreams}
 use Rattle.square.specs.Square.{NO, best, at, cell}
-use Rattle.square.proofs.Rows.{put-more, cell-is}
+use Rattle.basis.proofs.Firsts.{put-more}
+use Rattle.square.proofs.Rows.{cell-is}
 use Rattle.square.proofs.edges_into.Statement.{statement}
 use Rattle.square.proofs.edges_into.Tie as tie
 
 abbrev Inv-loop : tie.InvT-loop
-Inv-loop v d out₀ i₀ out i = (i ≤ 32) × (length out ≡ 32) × ((m : ℕ) → m < i → at out m ≡ cell d m v)
+Inv-loop v d out₀ i₀ out i = (i ≤ mostStreams) × (length out ≡ mostStreams) × ((m : ℕ) → m < i → at out m ≡ cell d m v)
 
 abbrev μ-loop : tie.MeasureT-loop
-μ-loop v d out₀ i₀ out i = 32 - i
+μ-loop v d out₀ i₀ out i = mostStreams - i
 
 loop-holds : tie.Need-loop-holds Inv-loop μ-loop
 loop-holds c = (search needs, search needs, λ i h. absurd (not-suc-le-zero h))

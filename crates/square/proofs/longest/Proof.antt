@@ -5,6 +5,7 @@ use Prim.Native.Nat.{ℕ, _+_, _≤_, _<_, _-_}
 use native.Mathlib.Omega.{arith}
 use native.Mathlib.Numerals.{add-one}
 use borrow.Author.Needs.{needs}
+use Rattle.limits.specs.Limits.{mostStreams}
 use Rattle.walks.specs.Longest.{Best, relaxB, through}
 use Rattle.square.specs.Square.{cell, Small}
 use Rattle.square.proofs.Sizes.{small-more, small-through}
@@ -12,7 +13,7 @@ use Rattle.square.proofs.longest.Statement.{statement}
 use Rattle.square.proofs.longest.Tie as tie
 
 abbrev Inv-loop : tie.InvT-loop
-Inv-loop s out₀ k₀ out k = (k ≤ s) × ((i j : ℕ) → i < 32 → j < 32 → cell out i j ≡ through (cell out₀) k i j)
+Inv-loop s out₀ k₀ out k = (k ≤ s) × ((i j : ℕ) → i < mostStreams → j < mostStreams → cell out i j ≡ through (cell out₀) k i j)
 
 abbrev μ-loop : tie.MeasureT-loop
 μ-loop s out₀ k₀ out k = s - k
@@ -23,7 +24,7 @@ loop-holds c = (search needs, λ i j h g. refl)
 
 relax-requires : tie.Need-relax-requires Inv-loop μ-loop
 relax-requires c κs = let s = c .before .before in let l = c .before .loop in
-    (omega arith, λ i j h g. subst (Small 61) (sym (l .inv .1 i j h g)) (small-more {n = 7 + l .k} (omega arith) (small-through (cell (s .args .a)) 32 7 (s .pre .1) (l .k) (omega arith) i j h g)))
+    (omega arith, λ i j h g. subst (Small 61) (sym (l .inv .1 i j h g)) (small-more {n = 7 + l .k} (omega arith) (small-through (cell (s .args .a)) mostStreams 7 (s .pre .1) (l .k) (omega arith) i j h g)))
 
 add-k : tie.Need-add-k Inv-loop μ-loop
 add-k c = search needs
@@ -32,8 +33,8 @@ loop-less : tie.Need-loop-less Inv-loop μ-loop
 loop-less c = search needs
 
 -- a square that stands relaxed through k, relaxed once more
-more : (A D D′ : ℕ → ℕ → Best) (k : ℕ) → k < 32 → ((i j : ℕ) → i < 32 → j < 32 → D i j ≡ through A k i j) → ((i j : ℕ) → i < 32 → j < 32 → D′ i j ≡ relaxB (D i j) (D i k) (D k j))
-    → (i j : ℕ) → i < 32 → j < 32 → D′ i j ≡ through A (k + 1) i j
+more : (A D D′ : ℕ → ℕ → Best) (k : ℕ) → k < mostStreams → ((i j : ℕ) → i < mostStreams → j < mostStreams → D i j ≡ through A k i j) → ((i j : ℕ) → i < mostStreams → j < mostStreams → D′ i j ≡ relaxB (D i j) (D i k) (D k j))
+    → (i j : ℕ) → i < mostStreams → j < mostStreams → D′ i j ≡ through A (k + 1) i j
 unfolding through
 more A D D′ k q e f i j h g = rw add-one (f i j h g ∙ (rw (e i j h g, e i k h q, e k j q g) refl))
 

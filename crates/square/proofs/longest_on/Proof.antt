@@ -10,6 +10,7 @@ use lib.IntN.{ℤ, pos}
 use mir.Syntax.{w64}
 use mir.Val.{toZ, ofZ}
 use mir.Facts.{toZ-ofZ}
+use Rattle.limits.specs.Limits.{mostStreams}
 use Rattle.walks.specs.Longest.{Best, larger, plus, relaxB, supTo}
 use Rattle.square.specs.Square.{NO, best, at}
 use Rattle.square.proofs.Cells.{best-no}
@@ -40,10 +41,10 @@ array-copy-out-relaxed-2 : tie.Need-array-copy-out-relaxed-2 Inv-loop μ-loop
 array-copy-out-relaxed-2 c = search needs
 
 row-is : (c : tie.After-relaxed-arg2 Inv-loop μ-loop) → toZ w64 (ofZ w64 (getD (c .before .before .before .before .args .t1) (c .before .before .before .loop .m) (pos 0))) ≡ getD (c .before .before .before .before .args .t1) (c .before .before .before .loop .m) NO
-row-is c = read-is (c .before .before .before .before .args .t1) (c .before .before .before .loop .m) (c .before .relaxed-arg .given) (let e : length (c .before .before .before .before .args .t1) ≡ 32 = search needs in omega arith)
+row-is c = read-is (c .before .before .before .before .args .t1) (c .before .before .before .loop .m) (c .before .relaxed-arg .given) (let e : length (c .before .before .before .before .args .t1) ≡ mostStreams = search needs in omega arith)
 
 line-is : (c : tie.After-relaxed-arg2 Inv-loop μ-loop) → toZ w64 (ofZ w64 (getD (c .before .before .before .before .args .t2) (c .before .before .before .loop .m) (pos 0))) ≡ getD (c .before .before .before .before .args .t2) (c .before .before .before .loop .m) NO
-line-is c = read-is (c .before .before .before .before .args .t2) (c .before .before .before .loop .m) (c .relaxed-arg2 .given) (let e : length (c .before .before .before .before .args .t2) ≡ 32 = search needs in omega arith)
+line-is c = read-is (c .before .before .before .before .args .t2) (c .before .before .before .loop .m) (c .relaxed-arg2 .given) (let e : length (c .before .before .before .before .args .t2) ≡ mostStreams = search needs in omega arith)
 
 more : (f : ℕ → Best) (b r : Best) (m : ℕ) → b ≡ supTo f m → r ≡ larger b (f m) → r ≡ supTo f (m + 1)
 unfolding supTo

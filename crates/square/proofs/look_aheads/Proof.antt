@@ -6,14 +6,16 @@ use Prim.Native.Nat.{ℕ, _≤_, _-_}
 use native.Mathlib.Omega.{arith}
 use borrow.Author.Needs.{needs}
 use lib.Dec.{ltb}
+use Rattle.limits.specs.Limits.{mostStreams}
 use Rattle.walks.specs.Longest.{lookTo, lookOf}
-use Rattle.square.specs.Square.{cell, firsts}
-use Rattle.square.proofs.Rows.{Filled, filled-none, filled-more, filled-all}
+use Rattle.basis.specs.Firsts.{firsts}
+use Rattle.square.specs.Square.{cell}
+use Rattle.basis.proofs.Firsts.{Filled, filled-none, filled-more, filled-all}
 use Rattle.square.proofs.look_aheads.Statement.{statement}
 use Rattle.square.proofs.look_aheads.Tie as tie
 
 abbrev Inv-loop : tie.InvT-loop
-Inv-loop s d out₀ v₀ out v = (v ≤ s) × Filled (λ (i : ℕ). lookTo (cell d i) s) v out
+Inv-loop s d out₀ v₀ out v = (v ≤ s) × Filled mostStreams (λ (i : ℕ). lookTo (cell d i) s) v out
 
 abbrev μ-loop : tie.MeasureT-loop
 μ-loop s d out₀ v₀ out v = s - v
@@ -47,7 +49,7 @@ loop-again c = (search needs, filled-more (c .look-ahead .result) (omega arith) 
 
 returns : tie.Need-returns Inv-loop μ-loop
 unfolding lookOf
-returns c = subst (λ (n : ℕ). c .before .loop .out ≡ firsts (λ (v : ℕ). cond (ltb v n) (lookTo (cell (c .before .before .args .t1) v) (c .before .before .args .s)) 0) 32) (omega arith) (filled-all (c .before .loop .inv .1))
+returns c = subst (λ (n : ℕ). c .before .loop .out ≡ firsts (λ (v : ℕ). cond (ltb v n) (lookTo (cell (c .before .before .args .t1) v) (c .before .before .args .s)) 0) mostStreams) (omega arith) (filled-all (c .before .loop .inv .1))
 
 pub look-aheads-spec : {M : Type 1} → statement M
 look-aheads-spec =

@@ -10,21 +10,23 @@ use lib.ListN.{length, getD}
 use lib.IntN.{ℤ, pos}
 use mir.Syntax.{w64}
 use mir.Val.{toZ, ofZ}
+use Rattle.limits.specs.Limits.{mostStreams}
 use Rattle.walks.specs.Longest.{relaxB}
 use Rattle.square.specs.Square.{NO, best, at, cell}
-use Rattle.square.proofs.Rows.{put-more, cell-is}
+use Rattle.basis.proofs.Firsts.{put-more}
+use Rattle.square.proofs.Rows.{cell-is}
 use Rattle.square.proofs.relax.Statement.{statement}
 use Rattle.square.proofs.relax.Tie as tie
 
 -- row m of the new square is `row`
 abbrev Row : List (List ℤ) → ℕ → ℕ → List ℤ → Type 0
-Row d k m row = (j : ℕ) → j < 32 → at row j ≡ relaxB (cell d m j) (cell d m k) (cell d k j)
+Row d k m row = (j : ℕ) → j < mostStreams → at row j ≡ relaxB (cell d m j) (cell d m k) (cell d k j)
 
 abbrev Inv-loop : tie.InvT-loop
-Inv-loop k d via out₀ i₀ out i = (i ≤ 32) × (length out ≡ 32) × ((m : ℕ) → m < i → Row d k m (getD out m []))
+Inv-loop k d via out₀ i₀ out i = (i ≤ mostStreams) × (length out ≡ mostStreams) × ((m : ℕ) → m < i → Row d k m (getD out m []))
 
 abbrev μ-loop : tie.MeasureT-loop
-μ-loop k d via out₀ i₀ out i = 32 - i
+μ-loop k d via out₀ i₀ out i = mostStreams - i
 
 mul-via : tie.Need-mul-via Inv-loop μ-loop
 mul-via c = search needs

@@ -10,17 +10,18 @@ use lib.IntN.{ℤ, pos}
 use mir.Syntax.{w64}
 use mir.Val.{toZ, ofZ}
 use mir.Facts.{toZ-ofZ}
+use Rattle.limits.specs.Limits.{mostStreams}
 use Rattle.walks.specs.Longest.{relaxB}
 use Rattle.square.specs.Square.{NO, best, at}
-use Rattle.square.proofs.Rows.{getD-any, put-more}
+use Rattle.basis.proofs.Firsts.{getD-any, put-more}
 use Rattle.square.proofs.relax_row.Statement.{statement}
 use Rattle.square.proofs.relax_row.Tie as tie
 
 abbrev Inv-loop : tie.InvT-loop
-Inv-loop left row via out₀ j₀ out j = (j ≤ 32) × (length out ≡ 32) × ((i : ℕ) → i < j → at out i ≡ relaxB (at row i) (best (toZ w64 left)) (at via i))
+Inv-loop left row via out₀ j₀ out j = (j ≤ mostStreams) × (length out ≡ mostStreams) × ((i : ℕ) → i < j → at out i ≡ relaxB (at row i) (best (toZ w64 left)) (at via i))
 
 abbrev μ-loop : tie.MeasureT-loop
-μ-loop left row via out₀ j₀ out j = 32 - j
+μ-loop left row via out₀ j₀ out j = mostStreams - j
 
 loop-holds : tie.Need-loop-holds Inv-loop μ-loop
 loop-holds c = (search needs, search needs, λ i h. absurd (not-suc-le-zero h))

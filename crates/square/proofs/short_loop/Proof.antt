@@ -11,6 +11,7 @@ use lib.ListN.{length, getD}
 use lib.IntN.{pos}
 use mir.Syntax.{w64}
 use mir.Val.{toZ, ofZ}
+use Rattle.limits.specs.Limits.{mostStreams}
 use Rattle.walks.specs.Longest.{below, back}
 use Rattle.square.specs.Square.{best, at, cell, Small}
 use Rattle.square.proofs.Sizes.{small-more, small-back}
@@ -21,7 +22,7 @@ use Rattle.square.proofs.short_loop.Statement.{statement}
 use Rattle.square.proofs.short_loop.Tie as tie
 
 abbrev Inv-loop : tie.InvT-loop
-Inv-loop d v s line₀ n₀ line n = (n ≤ s) × (length line ≡ 32) × ((i : ℕ) → i < 32 → at line i ≡ back s (cell d) v n i) × ((m : ℕ) → m < n → below (back s (cell d) v m v) ≡ true)
+Inv-loop d v s line₀ n₀ line n = (n ≤ s) × (length line ≡ mostStreams) × ((i : ℕ) → i < mostStreams → at line i ≡ back s (cell d) v n i) × ((m : ℕ) → m < n → below (back s (cell d) v m v) ≡ true)
 
 abbrev μ-loop : tie.MeasureT-loop
 μ-loop d v s line₀ n₀ line n = s - n

@@ -10,16 +10,17 @@ use lib.IntN.{ℤ}
 use mir.Syntax.{w64}
 use mir.Val.{toZ, ofZ}
 use mir.Facts.{toZ-ofZ}
+use Rattle.limits.specs.Limits.{mostStreams}
 use Rattle.square.specs.Square.{NO, best, at, riseBest}
-use Rattle.square.proofs.Rows.{put-more}
+use Rattle.basis.proofs.Firsts.{put-more}
 use Rattle.square.proofs.square_row.Statement.{statement}
 use Rattle.square.proofs.square_row.Tie as tie
 
 abbrev Inv-loop : tie.InvT-loop
-Inv-loop rise out₀ j₀ out j = (j ≤ 32) × (length out ≡ 32) × ((i : ℕ) → i < j → at out i ≡ riseBest (getD rise i 0))
+Inv-loop rise out₀ j₀ out j = (j ≤ mostStreams) × (length out ≡ mostStreams) × ((i : ℕ) → i < j → at out i ≡ riseBest (getD rise i 0))
 
 abbrev μ-loop : tie.MeasureT-loop
-μ-loop rise out₀ j₀ out j = 32 - j
+μ-loop rise out₀ j₀ out j = mostStreams - j
 
 loop-holds : tie.Need-loop-holds Inv-loop μ-loop
 loop-holds c = (search needs, search needs, λ i h. absurd (not-suc-le-zero h))

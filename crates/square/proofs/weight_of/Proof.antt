@@ -8,6 +8,7 @@ use mir.Syntax.{w64}
 use mir.Val.{toZ, ofZ}
 use mir.Facts.{toZ-ofZ}
 use mir.ValLaws.{toZ-pos}
+use Rattle.limits.specs.Limits.{riseOfZero}
 use Rattle.square.specs.Square.{best}
 use Rattle.square.proofs.Cells.{rise-none, rise-some, weight-fits}
 use Rattle.square.proofs.weight_of.Statement.{statement}
@@ -23,7 +24,7 @@ sub-result : tie.Need-sub-result
 sub-result c = rw (toZ-pos w64 (c .before .args .rise) (omega (arith, c .before .fits .rise .fits))) (weight-fits (c .before .args .rise) (c .before .fits .rise .fits))
 
 returns-2 : tie.Need-returns-2
-returns-2 c = ap (λ (z : ℤ). best (toZ w64 (ofZ w64 (z -ℤ pos 129)))) (toZ-pos w64 (c .before .args .rise) (omega (arith, c .before .fits .rise .fits))) ∙ ap best (toZ-ofZ (weight-fits (c .before .args .rise) (c .before .fits .rise .fits))) ∙ rise-some (c .before .args .rise) (c .before .fits .rise .fits) (c .if1 .left)
+returns-2 c = ap (λ (z : ℤ). best (toZ w64 (ofZ w64 (z -ℤ pos riseOfZero)))) (toZ-pos w64 (c .before .args .rise) (omega (arith, c .before .fits .rise .fits))) ∙ ap best (toZ-ofZ (weight-fits (c .before .args .rise) (c .before .fits .rise .fits))) ∙ rise-some (c .before .args .rise) (c .before .fits .rise .fits) (c .if1 .left)
 
 pub weight-of-spec : {M : Type 1} → statement M
 weight-of-spec = tie.close (tie.spec returns cast-result sub-result returns-2)

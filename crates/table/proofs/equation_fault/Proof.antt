@@ -7,6 +7,7 @@ use Prim.Native.Nat.{ℕ, _+_}
 use native.Mathlib.Omega.{arith}
 use borrow.Author.Tests.{eq-eqb, ne-eqb}
 use lib.ListN.{getD}
+use Rattle.limits.specs.Refusals.{wrongField}
 use Rattle.table.specs.Records.{equationFault, recordFault}
 use Rattle.table.proofs.Faults.{next-of, here-of, record-room}
 use Rattle.table.proofs.equation_fault.Statement.{statement}
@@ -17,21 +18,21 @@ module _ (s : List ℕ) (at y : ℕ) {a v : ℕ} (e : a ≡ recordFault s at 4 1
   unfolding equationFault
   same h = rw (← f, eq-eqb _ _ h) (next-of e z)
 
-  other : (v ≡ y → ⊥) → 4 ≡ equationFault s at y
+  other : (v ≡ y → ⊥) → wrongField ≡ equationFault s at y
   unfolding equationFault
   other h = rw (← f, ne-eqb _ _ h) (next-of e z)
 
-add-size : tie.Need-add-size
-add-size c = omega (arith, record-room _ (c .before .before .before .args .at) 4 1 (sym (c .before .record-fault .ensures) ∙ c .if1 .taken))
+add-byte-size : tie.Need-add-byte-size
+add-byte-size c = omega (arith, record-room _ (c .before .before .before .args .at) 4 1 (sym (c .before .record-fault .ensures) ∙ c .if1 .taken))
 
-shared-slice-read-size : tie.Need-shared-slice-read-size
-shared-slice-read-size c = omega (arith, record-room _ (c .before .before .before .before .args .at) 4 1 (sym (c .before .before .record-fault .ensures) ∙ c .before .if1 .taken))
+shared-slice-read-byte-size : tie.Need-shared-slice-read-byte-size
+shared-slice-read-byte-size c = omega (arith, record-room _ (c .before .before .before .before .args .at) 4 1 (sym (c .before .before .record-fault .ensures) ∙ c .before .if1 .taken))
 
 returns : tie.Need-returns
-returns c = same _ _ _ (c .before .before .before .before .record-fault .ensures) (c .before .before .before .if1 .taken) (c .before .size .ensures) (c .if2 .taken)
+returns c = same _ _ _ (c .before .before .before .before .record-fault .ensures) (c .before .before .before .if1 .taken) (c .before .byte-size .ensures .0) (c .if2 .taken)
 
 returns-2 : tie.Need-returns-2
-returns-2 c = other _ _ _ (c .before .before .before .before .record-fault .ensures) (c .before .before .before .if1 .taken) (c .before .size .ensures) (c .if2 .left)
+returns-2 c = other _ _ _ (c .before .before .before .before .record-fault .ensures) (c .before .before .before .if1 .taken) (c .before .byte-size .ensures .0) (c .if2 .left)
 
 returns-3 : tie.Need-returns-3
 unfolding equationFault
@@ -42,8 +43,8 @@ equation-fault-spec =
     tie.close
     (tie.spec
     (λ c κs. search needs)
-    add-size
-    shared-slice-read-size
+    add-byte-size
+    shared-slice-read-byte-size
     (λ c κs. search needs)
     returns
     returns-2

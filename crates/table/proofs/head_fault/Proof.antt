@@ -6,6 +6,7 @@ use Prim.Native.Nat.{_+_, _≤_, _<_}
 use native.Mathlib.Omega.{arith}
 use borrow.Author.Tests.{eq-eqb, ne-eqb, le-leb, lt-leb}
 use lib.ListN.{getD}
+use Rattle.limits.specs.Limits.{mostStreams}
 use Rattle.table.specs.Records.{headFault}
 use Rattle.table.proofs.Faults.{next-of, here-of, record-room}
 use Rattle.table.proofs.head_fault.Statement.{statement}
@@ -33,11 +34,11 @@ returns-2 c = rw (eq-eqb _ _ (c .before .before .if2 .taken), ne-eqb _ _ (c .bef
 
 returns-3 : tie.Need-returns-3
 unfolding headFault
-returns-3 c = let h : getD (c .before .before .before .before .before .before .before .before .before .before .before .before .args .table .now) 2 0 + getD (c .before .before .before .before .before .before .before .before .before .before .before .before .args .table .now) 3 0 ≤ 32 = omega arith in rw (eq-eqb _ _ (c .before .before .before .before .before .if2 .taken), ne-eqb _ _ (c .before .before .before .before .if3 .left), ne-eqb _ _ (c .before .before .before .if4 .left), le-leb _ _ h) (next-of (c .before .before .before .before .before .before .before .before .before .before .record-fault .ensures) (c .before .before .before .before .before .before .before .before .before .if1 .taken))
+returns-3 c = let h : getD (c .before .before .before .before .before .before .before .before .before .before .before .before .args .table .now) 2 0 + getD (c .before .before .before .before .before .before .before .before .before .before .before .before .args .table .now) 3 0 ≤ mostStreams = omega arith in rw (eq-eqb _ _ (c .before .before .before .before .before .if2 .taken), ne-eqb _ _ (c .before .before .before .before .if3 .left), ne-eqb _ _ (c .before .before .before .if4 .left), le-leb _ _ h) (next-of (c .before .before .before .before .before .before .before .before .before .before .record-fault .ensures) (c .before .before .before .before .before .before .before .before .before .if1 .taken))
 
 returns-4 : tie.Need-returns-4
 unfolding headFault
-returns-4 c = let h : 32 < getD (c .before .before .before .before .before .before .before .before .before .before .before .before .args .table .now) 2 0 + getD (c .before .before .before .before .before .before .before .before .before .before .before .before .args .table .now) 3 0 = omega arith in rw (eq-eqb _ _ (c .before .before .before .before .before .if2 .taken), ne-eqb _ _ (c .before .before .before .before .if3 .left), ne-eqb _ _ (c .before .before .before .if4 .left), lt-leb _ _ h) (next-of (c .before .before .before .before .before .before .before .before .before .before .record-fault .ensures) (c .before .before .before .before .before .before .before .before .before .if1 .taken))
+returns-4 c = let h : mostStreams < getD (c .before .before .before .before .before .before .before .before .before .before .before .before .args .table .now) 2 0 + getD (c .before .before .before .before .before .before .before .before .before .before .before .before .args .table .now) 3 0 = omega arith in rw (eq-eqb _ _ (c .before .before .before .before .before .if2 .taken), ne-eqb _ _ (c .before .before .before .before .if3 .left), ne-eqb _ _ (c .before .before .before .if4 .left), lt-leb _ _ h) (next-of (c .before .before .before .before .before .before .before .before .before .before .record-fault .ensures) (c .before .before .before .before .before .before .before .before .before .if1 .taken))
 
 returns-5 : tie.Need-returns-5
 unfolding headFault

@@ -7,11 +7,12 @@ use Prim.Native.Nat.{ℕ, _+_, _≤_, _<_, _-_}
 use native.Mathlib.Omega.{arith}
 use borrow.Author.Tests.{eq-eqb, ne-eqb, lt-ltb, le-ltb, le-leb, lt-leb}
 use lib.ListN.{length, getD}
+use Rattle.limits.specs.Refusals.{missing}
 use Rattle.table.specs.Records.{recordFault}
 use Rattle.table.proofs.record_fault.Statement.{statement}
 use Rattle.table.proofs.record_fault.Tie as tie
 
-no-body : (s : List ℕ) (at k b : ℕ) {n : ℕ} → at < length s → getD s at 0 ≡ k → n ≡ b → length s - at ≤ n → 2 ≡ recordFault s at k b
+no-body : (s : List ℕ) (at k b : ℕ) {n : ℕ} → at < length s → getD s at 0 ≡ k → n ≡ b → length s - at ≤ n → missing ≡ recordFault s at k b
 unfolding recordFault
 no-body s at k b h e f g = simp (lt-ltb _ _ h, eq-eqb _ _ e, lt-leb (at + 1 + b) (length s) (omega arith))
 
@@ -24,10 +25,10 @@ unfolding recordFault
 returns c = simp (le-ltb _ _ (c .if1 .taken))
 
 returns-2 : tie.Need-returns-2
-returns-2 c = no-body _ _ _ _ (c .before .before .before .before .if1 .left) (c .before .before .if2 .taken) (c .before .size .ensures) (c .if3 .taken)
+returns-2 c = no-body _ _ _ _ (c .before .before .before .before .if1 .left) (c .before .before .if2 .taken) (c .before .byte-size .ensures .0) (c .if3 .taken)
 
 returns-3 : tie.Need-returns-3
-returns-3 c = fine _ _ _ _ (c .before .before .before .before .if1 .left) (c .before .before .if2 .taken) (c .before .size .ensures) (c .if3 .left)
+returns-3 c = fine _ _ _ _ (c .before .before .before .before .if1 .left) (c .before .before .if2 .taken) (c .before .byte-size .ensures .0) (c .if3 .left)
 
 returns-4 : tie.Need-returns-4
 unfolding recordFault

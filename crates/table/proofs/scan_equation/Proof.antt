@@ -8,6 +8,7 @@ use Prim.Native.Nat.{ℕ, _+_, _<_}
 use native.Mathlib.Omega.{arith}
 use lib.ListN.{getD, take}
 use lib.Seq.{getD-take}
+use Rattle.limits.specs.Limits.{mostLevels}
 use Rattle.expression.specs.declared.Scanned.{Scanned}
 use Rattle.expression.specs.declared.Scanned.the-variants.{Refused}
 use Rattle.expression.specs.Syntax.{Expr}
@@ -20,7 +21,7 @@ use Rattle.table.proofs.scan_equation.Statement.{statement}
 use Rattle.table.proofs.scan_equation.Tie as tie
 
 module _ (s : List ℕ) (y at : ℕ) {f : ℕ} (p : f ≡ equationFault s at y) {rise fall rise′ fall′ : List ℕ} where
-  fine : (n : ℕ) (types : List ℕ) {r : Scanned} → y < n → f ≡ 0 → Scans (parse 16 (take n types) s (getD types y 0) (at + 2)) rise fall rise′ fall′ r → Scans (equationAt (take n types) s y at) rise fall rise′ fall′ r
+  fine : (n : ℕ) (types : List ℕ) {r : Scanned} → y < n → f ≡ 0 → Scans (parse mostLevels (take n types) s (getD types y 0) (at + 2)) rise fall rise′ fall′ r → Scans (equationAt (take n types) s y at) rise fall rise′ fall′ r
   unfolding equationAt
   fine n types h z x = rw (← p, eq-eqb _ _ z, getD-take n types y 0 h) x
 

@@ -7,6 +7,7 @@ use Prim.Native.Nat.{ℕ, _-_, _≤_}
 use native.Mathlib.Omega.{arith}
 use lib.ListN.{length, take, length-set}
 use lib.Seq.{length-take-le}
+use Rattle.limits.specs.Limits.{mostStreams}
 use Rattle.table.proofs.Arrays.{ZeroFrom, zeros-at-first, zeros-left, padded-front}
 use Rattle.table.proofs.Faults.{stream-room}
 use Rattle.table.proofs.Streams.{streams-first, streams-end, streams-fault, streams-more}
@@ -18,12 +19,12 @@ use Rattle.table.proofs.scan_streams.Tie as tie
 
 abbrev Inv-loop : tie.InvT-loop
 Inv-loop table inputs streams types₀ roles₀ v₀ next₀ types roles v next =
-    (v ≤ streams) × ((length types ≡ 32) × ((length roles ≡ 32) × ((before (take v types) (take v roles) (declared (streams - v) inputs v table next) ≡ declared streams inputs 0 table 4) × (ZeroFrom v types × ZeroFrom v roles))))
+    (v ≤ streams) × ((length types ≡ mostStreams) × ((length roles ≡ mostStreams) × ((before (take v types) (take v roles) (declared (streams - v) inputs v table next) ≡ declared streams inputs 0 table 4) × (ZeroFrom v types × ZeroFrom v roles))))
 
 abbrev μ-loop : tie.MeasureT-loop
 μ-loop table inputs streams types₀ roles₀ v₀ next₀ types roles v next = streams - v
 
-all-declared : (i n next : ℕ) {v : ℕ} (types roles : List ℕ) → v ≡ n → length types ≡ 32 → length roles ≡ 32 → n ≤ 32 → ZeroFrom v types → ZeroFrom v roles
+all-declared : (i n next : ℕ) {v : ℕ} (types roles : List ℕ) → v ≡ n → length types ≡ mostStreams → length roles ≡ mostStreams → n ≤ mostStreams → ZeroFrom v types → ZeroFrom v roles
     → _≡_ {A = Heading} (record { number = 0; place = next; inputs = i; streams = n; types = types; roles = roles }) (headedOf i (declares (take v types) (take v roles) next))
 unfolding headedOf
 all-declared i n next {v} types roles p l m h z w =
@@ -46,10 +47,10 @@ add-v : tie.Need-add-v Inv-loop μ-loop
 add-v c = omega arith
 
 add-next : tie.Need-add-next Inv-loop μ-loop
-add-next c = omega (arith, c .before .before .before .before .before .side-of .ensures .1, c .size .ensures)
+add-next c = omega (arith, c .before .before .before .before .before .side-of .ensures .1, c .byte-size .ensures .0)
 
 add-next-2 : tie.Need-add-next-2 Inv-loop μ-loop
-add-next-2 c = omega (arith, c .size .ensures, stream-room _ _ (c .before .before .before .before .before .before .before .loop .next) (c .before .before .before .before .before .side-of .ensures .1) (sym (c .before .before .before .before .stream-fault .ensures) ∙ c .before .before .before .if1 .taken))
+add-next-2 c = omega (arith, c .byte-size .ensures .0, stream-room _ _ (c .before .before .before .before .before .before .before .loop .next) (c .before .before .before .before .before .side-of .ensures .1) (sym (c .before .before .before .before .stream-fault .ensures) ∙ c .before .before .before .if1 .taken))
 
 loop-less : tie.Need-loop-less Inv-loop μ-loop
 loop-less c = omega arith
@@ -62,7 +63,7 @@ loop-again c = (
     (
       rw length-set (c .before .before .before .before .before .before .before .loop .inv .1 .1 .0),
       (
-        streams-more _ _ _ _ _ (c .before .before .before .before .before .before .loop-test .taken) (c .before .before .before .before .before .side-of .ensures .0) (c .before .before .before .before .stream-fault .ensures) _ _ (omega arith) (omega arith) (c .before .before .before .if1 .taken) (c .before .role-at .ensures) (c .size .ensures) ∙ c .before .before .before .before .before .before .before .loop .inv .1 .1 .1 .0,
+        streams-more _ _ _ _ _ (c .before .before .before .before .before .before .loop-test .taken) (c .before .before .before .before .before .side-of .ensures .0) (c .before .before .before .before .stream-fault .ensures) _ _ (omega arith) (omega arith) (c .before .before .before .if1 .taken) (c .before .role-at .ensures) (c .byte-size .ensures .0) ∙ c .before .before .before .before .before .before .before .loop .inv .1 .1 .1 .0,
         (zeros-left _ (c .before .before .before .before .before .before .before .loop .inv .1 .1 .1 .1 .0), zeros-left _ (c .before .before .before .before .before .before .before .loop .inv .1 .1 .1 .1 .1)),
       ),
     ),

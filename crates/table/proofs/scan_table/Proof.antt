@@ -9,7 +9,7 @@ use Rattle.table.proofs.scan_table.Statement.{statement}
 use Rattle.table.proofs.scan_table.Tie as tie
 
 scan-equations-requires : tie.Need-scan-equations-requires
-scan-equations-requires c κs = let o = opens _ (c .before .before .before .before .scan-heading .ensures) (c .before .before .if1 .taken) in (omega (arith, opened-few o), (opened-few o .1 .1, (search needs, o .fits .bytes .1)))
+scan-equations-requires c κs = let o = opens _ (c .before .before .before .before .scan-heading .ensures) (c .before .before .if1 .taken) in (omega (arith, opened-few o), ((opened-few o .1 .1, search needs), o .fits .bytes .1))
 
 returns : tie.Need-returns
 returns c = scan-accepted (opens _ (c .before .before .before .before .before .before .before .before .before .before .before .scan-heading .ensures) (c .before .before .before .before .before .before .before .before .before .if1 .taken)) (c .before .before .before .before .before .before .scan-equations .ensures) (c .before .before .before .before .if2 .taken) (c .before .before .if3 .taken)

@@ -20,7 +20,7 @@ returns-2 c = verdict-no _ _ _ _ (c .unvouched2 .ensures) (out-of-bounds (opens 
 judge-requires : tie.Need-judge-requires
 judge-requires c κs =
     let o = opens _ (c .before .before .before .before .before .before .before .before .before .scan-heading .ensures) (c .before .before .before .before .before .before .before .if1 .left) in
-    (omega (arith, opened-few o), opened-few o .1 .1, search needs, o .fits .bytes .1)
+    (omega (arith, opened-few o), (opened-few o .1 .1, search needs), o .fits .bytes .1)
 
 returns-3 : tie.Need-returns-3
 returns-3 c = verdict-judged (opens _ (c .before .before .before .before .before .before .before .before .before .before .scan-heading .ensures) (c .before .before .before .before .before .before .before .before .if1 .left)) _ _ (rw (not-false (c .before .before .before .before .before .before .before .within-bounds .result) (c .before .before .before .before .before .before .if2 .left)) at (c .before .before .before .before .before .before .before .within-bounds .ensures)) (c .judge .result) (c .judge .ensures)

@@ -8,16 +8,17 @@ use native.Mathlib.Omega.{arith}
 use lib.Dec.{leb}
 use borrow.Author.Needs.{needs}
 use borrow.Author.Tests.{leb-true, leb-false}
+use Rattle.basis.specs.Firsts.{of}
+use Rattle.limits.specs.Limits.{mostWords}
 use Rattle.basis.specs.Sums.{total}
-use Rattle.certificate.specs.Certificate.{of}
 use Rattle.vouch.specs.Vouching.{ZeroPast, Bounded}
 use Rattle.vouch.specs.Steps.{Decides}
 use Rattle.vouch.proofs.within_bounds.Statement.{statement}
 use Rattle.vouch.proofs.within_bounds.Tie as tie
 
-store-decides : (look kept : List ℕ) (s : ℕ) {n : ℕ} → ZeroPast look s → ZeroPast kept s → n ≡ total (of kept) s → (b : Bool) → leb n 4096 ≡ b → Decides b (Bounded look kept s)
-store-decides look kept s {n} p q e true h = record { look-past = p; kept-past = q; store = omega (arith, leb-true n 4096 h) }
-store-decides look kept s {n} p q e false h = λ b. omega (arith, b .store, leb-false n 4096 h)
+store-decides : (look kept : List ℕ) (s : ℕ) {n : ℕ} → ZeroPast look s → ZeroPast kept s → n ≡ total (of kept) s → (b : Bool) → leb n mostWords ≡ b → Decides b (Bounded look kept s)
+store-decides look kept s {n} p q e true h = record { look-past = p; kept-past = q; store = omega (arith, leb-true n mostWords h) }
+store-decides look kept s {n} p q e false h = λ b. omega (arith, b .store, leb-false n mostWords h)
 
 returns : tie.Need-returns
 returns c = store-decides _ _ _ (rw (c .before .before .before .if1 .taken) at (c .before .before .before .before .zero-past .ensures)) (rw (c .before .if2 .taken) at (c .before .before .zero-past2 .ensures)) (c .sum .ensures) _ refl

@@ -1,8 +1,0 @@
--- One byte is written. Assumes nothing.
-use borrow.Author.Needs.{needs}
-use Rattle.basis.proofs.Written.{wrote-byte}
-use Rattle.lines.proofs.put_byte.Statement.{statement}
-use Rattle.lines.proofs.put_byte.Tie as tie
-
-pub put-byte-spec : {M : Type 1} → statement M
-put-byte-spec = tie.close (tie.spec (λ c. search needs) (λ c. search needs) (λ c. search needs) (λ c. wrote-byte _ _ _ (c .pre)))

@@ -1,2 +1,0 @@
-pub mod PlanFor
-pub mod Planning

@@ -1,0 +1,5 @@
+pub mod Announcing
+pub mod Rooms
+pub mod Held
+pub mod Vouched
+pub mod Accepted

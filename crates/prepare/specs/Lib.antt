@@ -1,0 +1,2 @@
+pub mod PlanFor
+pub mod Preparing

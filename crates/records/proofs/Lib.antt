@@ -1,0 +1,5 @@
+pub mod Sizes
+pub mod Reading
+pub mod Back
+pub mod Lines
+pub mod Listing

@@ -1,0 +1,5 @@
+pub mod Kinds
+pub mod Encoding
+pub mod Reading
+pub mod Lines
+pub mod Listing

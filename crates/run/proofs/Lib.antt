@@ -1,0 +1,16 @@
+pub mod Keeps
+pub mod Due
+pub mod Turns
+pub mod Stores
+pub mod Words
+pub mod Cells
+pub mod Bits
+pub mod Types
+pub mod InPlace
+pub mod Parts
+pub mod Gathers
+pub mod Calls
+pub mod Runs
+pub mod Once
+pub mod Unread
+pub mod Demands
