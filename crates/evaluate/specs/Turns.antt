@@ -1,6 +1,6 @@
 -- A turn over the lent store (document 01, "A run"): what it needs of its arguments, and the store that it leaves. `look`, `starts` and
 -- `order` hold a number for each stream, ws are the row's words, t is the turn. Assumes nothing.
-use Prim.Native.Nat.{ℕ, _-_, _≤_, _<_}
+use Prim.Native.Nat.{ℕ, _+_, _-_, _≤_, _<_, _^_}
 use mathlib.Core.Path.{_≡_}
 use mathlib.Core.Bool.{Bool, true, cond}
 use mathlib.Core.List.{List}
@@ -43,6 +43,25 @@ pub record StreamReady (s types kept parts starts : List ℕ) (inputs n y : ℕ)
   pub stream : y < mostStreams
   pub part : PartIn kept parts n y
   pub equation : inputs ≤ y → Readable mostLevels types kept parts n s (getD starts y 0)
+
+-- A number that a reference can still go ahead of within the code's 64 bits, and one that a look-ahead can be added to.
+abbrev pub Ahead : ℕ → Type 0
+Ahead j = j + 128 < 2 ^ 64
+
+abbrev pub Looked : ℕ → Type 0
+Looked n = n + 65536 < 2 ^ 64
+
+-- what `fresh`, `step` and `turn` need: that, numbers in range, and the row's words where inputs are due; `given` words are in the row
+abbrev pub CanFresh : (s types kept parts starts : List ℕ) (inputs n given j y : ℕ) → Type 0
+CanFresh s types kept parts starts inputs n given j y = StreamReady s types kept parts starts inputs n y × Ahead j × (y < inputs → y < given)
+
+abbrev pub CanStep : (s types look kept parts starts : List ℕ) (inputs n given known t y : ℕ) → Type 0
+CanStep s types look kept parts starts inputs n given known t y =
+    StreamReady s types kept parts starts inputs n y × Ahead t × Looked known × (t < known + of look y → y < inputs → y < given)
+
+abbrev pub CanTurn : (s types look kept parts starts order : List ℕ) (inputs streams n given known t : ℕ) → Type 0
+CanTurn s types look kept parts starts order inputs streams n given known t =
+    Turnable s types look kept parts starts order inputs streams n × (Ahead t × (Looked known × (t < known → inputs ≤ given)))
 
 -- r is the value of y at position j: an input's from the row, an output's from its equation over the store as it is
 pub record Fresh (s types kept parts starts : List ℕ) (inputs : ℕ) (ws st : List ℕ) (n j y : ℕ) (r : Value) : Type 0 where

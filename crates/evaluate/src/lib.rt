@@ -2,13 +2,13 @@
 // `starts` and `order` hold a number for each stream; `known` is the number of rows known.
 ghost use mathlib.Core.Path.{_≡_};
 ghost use Prim.Native.Nat.{_+_, _≤_, _<_, _^_};
-ghost use lib.ListN.{length, getD};
+ghost use lib.ListN.{length};
 ghost use Rattle.basis.specs.Parts.{up, down};
 ghost use Rattle.limits.specs.Limits.{mostStreams};
 ghost use Rattle.node.specs.Kinds.{ruleOf};
 ghost use Rattle.store.specs.Store.{PartIn};
 ghost use Rattle.evaluate.specs.Evaluation.{referredOf, Readable, evaluatedOf, Evaluates};
-ghost use Rattle.evaluate.specs.Turns.{StreamReady, Fresh, Stepped, Turnable, Turns};
+ghost use Rattle.evaluate.specs.Turns.{Ahead, CanFresh, CanStep, CanTurn, Fresh, Stepped, Turns};
 use limits::STREAMS_MOST;
 use node::Node;
 use value::Value;
@@ -39,7 +39,7 @@ fn referred(
     k: i8,
     word: u32,
 ) -> Value
-    requires { ⌜ (j + 128 < 2 ^ 64) × ((v < mostStreams) × PartIn (now kept) (now parts) (length (now store)) v) ⌝ }
+    requires { ⌜ Ahead j × ((v < mostStreams) × PartIn (now kept) (now parts) (length (now store)) v) ⌝ }
     ensures { λ r. ⌜ r ≡ referredOf (now (types .entry)) (now (kept .entry)) (now (store .entry)) known j v k word ⌝ }
 {
     let up = j + up_of(k);
@@ -90,7 +90,7 @@ fn eval(
     at: usize,
     levels: u8,
 ) -> Evaluated
-    requires { ⌜ (j + 128 < 2 ^ 64) × Readable levels (now types) (now kept) (now parts) (length (now store)) (now bytes) at ⌝ }
+    requires { ⌜ Ahead j × Readable levels (now types) (now kept) (now parts) (length (now store)) (now bytes) at ⌝ }
     ensures { λ r. ⌜ Evaluates levels (now (types .entry)) (now (kept .entry)) (now (parts .entry)) (now (store .entry))
         (now (bytes .entry)) known j at r ⌝ }
 {
@@ -141,8 +141,7 @@ fn fresh(
     position: u64,
     y: usize,
 ) -> Value
-    requires { ⌜ StreamReady (now bytes) (now types) (now kept) (now parts) (now starts) inputs (length (now store)) y
-        × (position + 128 < 2 ^ 64) × (y < inputs → y < length (now row)) ⌝ }
+    requires { ⌜ CanFresh (now bytes) (now types) (now kept) (now parts) (now starts) inputs (length (now store)) (length (now row)) position y ⌝ }
     ensures { λ r. ⌜ Fresh (now (bytes .entry)) (now (types .entry)) (now (kept .entry)) (now (parts .entry)) (now (starts .entry)) inputs
         (now (row .entry)) (now (store .entry)) known position y r ⌝ }
 {
@@ -181,8 +180,8 @@ fn step(
     t: u64,
     y: usize,
 )
-    requires { ⌜ StreamReady (now bytes) (now types) (now kept) (now parts) (now starts) inputs (length (now store)) y
-        × (t + 128 < 2 ^ 64) × (known + 65536 < 2 ^ 64) × (t < known + getD (now look) y 0 → y < inputs → y < length (now row)) ⌝ }
+    requires { ⌜ CanStep (now bytes) (now types) (now look) (now kept) (now parts) (now starts)
+        inputs (length (now store)) (length (now row)) known t y ⌝ }
     ensures { λ _. ⌜ Stepped (now (bytes .entry)) (now (types .entry)) (now (look .entry)) (now (kept .entry)) (now (parts .entry))
         (now (starts .entry)) inputs (now (row .entry)) (now (store .entry)) known t y (now (store .exit)) ⌝ }
 {
@@ -222,8 +221,8 @@ pub fn turn(
     known: u64,
     t: u64,
 )
-    requires { ⌜ Turnable (now bytes) (now types) (now look) (now kept) (now parts) (now starts) (now order) inputs streams (length (now store))
-        × ((t + 128 < 2 ^ 64) × ((known + 65536 < 2 ^ 64) × (t < known → inputs ≤ length (now row)))) ⌝ }
+    requires { ⌜ CanTurn (now bytes) (now types) (now look) (now kept) (now parts) (now starts) (now order)
+        inputs streams (length (now store)) (length (now row)) known t ⌝ }
     ensures { λ _. ⌜ Turns (now (bytes .entry)) (now (types .entry)) (now (look .entry)) (now (kept .entry)) (now (parts .entry))
         (now (starts .entry)) (now (order .entry)) inputs streams (now (row .entry)) (now (store .entry)) known t (now (store .exit)) ⌝ }
 {
