@@ -82,7 +82,7 @@ done | awk '
         against("anew")
         against("once")
         print "ratio to a plain Rust program that tests the table anew: " \
-            ratio(user["program"], user["anew"]) " (at most 3 wanted)"
+            ratio(user["program"], user["anew"]) " (at most 1.25 wanted)"
         print "ratio to a plain Rust program that tests the table once: " \
             ratio(user["program"], user["once"])
     }'

@@ -41,7 +41,7 @@ extern "C" {
 // the major where a caller has to change or to be compiled anew.
 #define GLASSPUDDLE_VERSION_MAJOR 1
 #define GLASSPUDDLE_VERSION_MINOR 0
-#define GLASSPUDDLE_VERSION_PATCH 1
+#define GLASSPUDDLE_VERSION_PATCH 2
 #define GLASSPUDDLE_VERSION                                                                        \
     (GLASSPUDDLE_VERSION_MAJOR * 10000 + GLASSPUDDLE_VERSION_MINOR * 100 +                         \
      GLASSPUDDLE_VERSION_PATCH)

@@ -25,9 +25,9 @@ struct use {
 };
 
 static struct use checking = {"check and open", 0, 57344};
-static struct use going = {"row, close and drain with the record of the table", 0, 8192};
+static struct use going = {"row, close and drain with the record of the table", 0, 5008};
 static struct use strange = {"row, close and drain with another record or a refused table", 0,
-                             65536};
+                             57344};
 
 static _Alignas(16) uint8_t stack[STACK_BYTES];
 static ucontext_t here, there;

@@ -33,7 +33,7 @@ use Rattle.basis.proofs.Firsts.{getD-firsts, firsts-past, length-firsts}
 use Rattle.announce.specs.declared.Checked.{Checked}
 use Rattle.announce.specs.Announced.{lookAhead, keptValues, storeWords, roomBytes, closingTurns, refusal, acceptance, weighTable, announced}
 use Rattle.announce.specs.Conditions.{edgesOf, Numbers, Accepted, Refusal, by-grammar, by-loop, by-store, Announces, Refuses, Answers}
-use Rattle.announce.specs.Rows.{Scanning}
+use Rattle.announce.specs.Rows.{Scanned}
 use Rattle.announce.proofs.Numbers.{whole, ends, look-past, look-at}
 
 refuses : {s : List ℕ} {n p : ℕ} → Refusal s n p → 1 ≤ n → Refuses s (refusal n p)
@@ -46,7 +46,7 @@ refuses r h = record {
 }
 
 module _ (s : List ℕ) (t : Table) (e : decode s ≡ decoded t) where
-  abbrev x : Scanning s (scanOf (decoded t))
+  abbrev x : Scanned s (scanOf (decoded t))
   x = record { table = t; decodes = e; scan-is = refl }
 
   abbrev S : ℕ

@@ -35,7 +35,7 @@ use Rattle.kept.proofs.Slack.{fall-small, kept-over-edges}
 use Rattle.square.proofs.Weighed.{weighed-same, weighed-look-small}
 use Rattle.announce.specs.declared.Checked.{Checked}
 use Rattle.announce.specs.Announced.{lookAhead, keptValues, storeWords, roomBytes, closingTurns, refusal, acceptance, weighTable, announced}
-use Rattle.announce.specs.Rows.{Weighs, Scanning, Fitting, numbersOf}
+use Rattle.announce.specs.Rows.{Weighs, Scanned, Fitting, numbersOf}
 use Rattle.announce.proofs.Weighing.{arrays-of, inputs-are, roles-are, scan-bounds}
 
 module _ (c : Scan) (look fall : List ℕ) {kept : List ℕ} {words : ℕ} (ek : kept ≡ keptRow look fall (c .streams)) (ew : words ≡ total (λ v. getD kept v 0) (c .streams)) where
@@ -52,7 +52,7 @@ module _ (c : Scan) (look fall : List ℕ) {kept : List ℕ} {words : ℕ} (ek :
   unfolding numbersOf
   few-enough h p q = (λ d. record { number = 0; place = 0; look = look; kept = ek d; words = words-are d; room = p d; closing = q d }) ∙ sym (rw (← words-are, le-leb _ _ h))
 
-module _ {s : List ℕ} {c : Scan} (x : Scanning s c) where
+module _ {s : List ℕ} {c : Scan} (x : Scanned s c) where
   abbrev t : Table
   t = x .table
 

@@ -21,16 +21,16 @@ module _ {before : List ℕ} {y : ℕ} {row : List ℕ} where
   pub none-begun : RowBegun before y row 0 before
   none-begun = record { size = refl; own = λ u h. absurd (omega arith); others = λ i h. refl }
 
-  pub one-more : {v : ℕ} {after : List ℕ} → RowBegun before y row v after → y * mostStreams + v < length after → RowBegun before y row (v + 1) (set after (y * mostStreams + v) (getD row v 0))
-  one-more {v} {after} b h = record {
-    size = length-set after (y * mostStreams + v) (getD row v 0) ∙ b .size;
+  pub one-more : {v x : ℕ} {after : List ℕ} → RowBegun before y row v after → y * mostStreams + v < length after → x ≡ getD row v 0 → RowBegun before y row (v + 1) (set after (y * mostStreams + v) x)
+  one-more {v} {x} {after} b h q = record {
+    size = length-set after (y * mostStreams + v) x ∙ b .size;
     own = λ u l. own u (lt-or-ge u v) l;
-    others = λ i q. getD-set-other after (y * mostStreams + v) i (getD row v 0) 0 (λ e. ⊎-elim (λ p. omega arith) (λ p. omega arith) q) ∙ b .others i (⊎-elim (λ p. inl p) (λ p. inr (omega arith)) q);
+    others = λ i g. getD-set-other after (y * mostStreams + v) i x 0 (λ e. ⊎-elim (λ p. omega arith) (λ p. omega arith) g) ∙ b .others i (⊎-elim (λ p. inl p) (λ p. inr (omega arith)) g);
   }
     where
-      own : (u : ℕ) → (u < v) ⊎ (v ≤ u) → u < v + 1 → getD (set after (y * mostStreams + v) (getD row v 0)) (y * mostStreams + u) 0 ≡ getD row u 0
-      own u (inl p) l = getD-set-other after (y * mostStreams + v) (y * mostStreams + u) (getD row v 0) 0 (λ e. omega arith) ∙ b .own u p
-      own u (inr p) l = let e : u ≡ v = omega arith in rw e (getD-set-same after (y * mostStreams + v) (getD row v 0) 0 h)
+      own : (u : ℕ) → (u < v) ⊎ (v ≤ u) → u < v + 1 → getD (set after (y * mostStreams + v) x) (y * mostStreams + u) 0 ≡ getD row u 0
+      own u (inl p) l = getD-set-other after (y * mostStreams + v) (y * mostStreams + u) x 0 (λ e. omega arith) ∙ b .own u p
+      own u (inr p) l = let e : u ≡ v = omega arith in rw e (getD-set-same after (y * mostStreams + v) x 0 h ∙ q)
 
   pub row-put : {v : ℕ} {after : List ℕ} → v ≡ mostStreams → RowBegun before y row v after → RowPut before y row after
   row-put {v} {after} e b = record {

@@ -11,10 +11,10 @@ use Rattle.table.specs.declared.Outcome.the-variants.{Accepted, Refused}
 use Rattle.table.proofs.Decoding.{scan-accepts}
 use Rattle.announce.specs.declared.Checked.{Checked}
 use Rattle.announce.specs.Announced.{refusal, announced}
-use Rattle.announce.specs.Rows.{Scanning}
+use Rattle.announce.specs.Rows.{Scanned}
 
 module _ (s : List ℕ) {r : Scan} (p : r ≡ scanOf (decode s)) where
-  pub scan-taken : r .outcome ≡ Accepted → Scanning s r
+  pub scan-taken : r .outcome ≡ Accepted → Scanned s r
   unfolding numberOf
   scan-taken e = let a = scan-accepts s p (ap numberOf e) in record { table = a .table; decodes = a .decodes; scan-is = a .scan-is }
 

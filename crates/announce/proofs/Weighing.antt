@@ -9,12 +9,16 @@ use lib.IntN.{ℤ}
 use lib.ListN.{length, getD, take, replicate}
 use Rattle.basis.specs.Notes.{rising, falling}
 use Rattle.limits.specs.Limits.{mostStreams, mostPairs, mostLevels}
+use Rattle.basis.specs.Rows.{column}
+use Rattle.basis.proofs.Rows.{column-at, column-long}
 use Rattle.basis.proofs.Tests.{lt-or-ge}
+use Rattle.node.specs.Kinds.{Tabulated}
 use Rattle.node.proofs.Tabulated.{same-at}
 use Rattle.expression.specs.Syntax.{Expr}
 use Rattle.expression.specs.Grammar.{good, parse}
-use Rattle.expression.specs.References.{references, Refers, noted, Scans, Extremes}
-use Rattle.expression.specs.declared.Scanned.{Scanned}
+use Rattle.expression.specs.References.{references, Refers, noted, Extremes}
+use Rattle.expression.specs.Seen.{seenRise, seenFall, Seen, Unnoted, Sees}
+use Rattle.expression.specs.Scanning.{CanScan, Scanning}
 use Rattle.expression.proofs.Extremes.{extremes}
 use Rattle.expression.proofs.Sound.{good-right}
 use Rattle.table.specs.Table.{Table, streams, equationOf, edges}
@@ -28,7 +32,7 @@ use Rattle.table.proofs.Entries.{padded-at, padded-take, start-of}
 use Rattle.table.proofs.Edges.{reference-edge, edge-output, edge-reference}
 use Rattle.walks.specs.Longest.{noteOf, riseOf, fallOf}
 use Rattle.walks.proofs.Notes.{note-one, no-note}
-use Rattle.announce.specs.Rows.{RowPut, Weighs, Scanning, Arrays, WeighsTo}
+use Rattle.announce.specs.Rows.{RowPut, Weighs, Scanned, Arrays, WeighsTo}
 
 module _ {s : List ℕ} {t : Table} {types starts : List ℕ} {held : ℕ} (a : Arrays s t types starts held) where
   fine : Sound s t
@@ -36,6 +40,13 @@ module _ {s : List ℕ} {t : Table} {types starts : List ℕ} {held : ℕ} (a : 
 
   no-edge : (m : ℤ → ℕ) (x v : ℕ) → (x < t .inputs) ⊎ (streams t ≤ x) → noteOf m (edges t) x v ≡ 0
   no-edge m x v side = no-note m x v (λ k h. let o = edge-output t (fine .outputs) x v k h in ⊎-elim (λ l. omega (arith, o .0)) (λ l. omega (arith, o .1)) side)
+
+  types-taken : take held types ≡ t .types
+  types-taken = rw (a .streams-are, a .types-are) (padded-take (t .types))
+
+  -- rows that are filled with the table's types
+  pub all-seen : {seen : List (List ℕ)} → Sees (take held types) seen → Seen (take held types) seen × Unnoted seen
+  all-seen f = f (λ v _. rw types-taken (omega (arith, fine .type-is v)))
 
   -- before the first equation
   pub weights-none : WeighsTo t (t .inputs) (replicate mostPairs 0) (replicate mostPairs 0)
@@ -60,12 +71,13 @@ module _ {s : List ℕ} {t : Table} {types starts : List ℕ} {held : ℕ} (a : 
     abbrev e : Expr
     e = equationOf t y .expr
 
+    type-at : getD types y 0 ≡ getD (t .types) y 0
+    type-at = rw (a .types-are) (padded-at (t .types) y)
+
     parsed : {wanted start : ℕ} → wanted ≡ getD types y 0 → start ≡ getD starts y 0 → parse mostLevels (take held types) s wanted start ≡ good e (fine .stands y o inside .end)
     parsed p q =
-        let f : take held types ≡ t .types = rw (a .streams-are, a .types-are) (padded-take (t .types)) in
-        let g : getD types y 0 ≡ getD (t .types) y 0 = rw (a .types-are) (padded-at (t .types) y) in
         let h : getD starts y 0 ≡ equationOf t y .start = rw (a .starts-are) (start-of t y o) in
-        rw (f, p, g, q, h) (fine .stands y o inside .parsed)
+        rw (types-taken, p, type-at, q, h) (fine .stands y o inside .parsed)
 
     refers : Refers y (length (t .types)) (references y e)
     refers = good-right (t .types) s mostLevels (getD (t .types) y 0) (equationOf t y .start) (fine .stands y o inside .parsed) .refers y
@@ -84,28 +96,43 @@ module _ {s : List ℕ} {t : Table} {types starts : List ℕ} {held : ℕ} (a : 
           (λ k h. omega (arith, x .between k (edge-reference t (fine .outputs) y v k h) .1))
           (⊎-elim (λ p. let q = x .smallest p in inr (q .0, reference-edge t (fine .outputs) y v (q .0) o inside (q .1), omega (arith, q .2))) (λ p. inl (omega arith)) (lt-or-ge 0 fall)))
 
-    zeros-noted : (v : ℕ) → v < mostStreams → Extremes (references y e) y v (getD (noted rising e (replicate mostStreams 0)) v 0) (getD (noted falling e (replicate mostStreams 0)) v 0)
-    zeros-noted v h = extremes e refers (replicate mostStreams 0) (replicate mostStreams 0) v h h (same-at 0 mostStreams v) (same-at 0 mostStreams v)
-
-    -- one equation more
-    pub weights-more :
-        {wanted start : ℕ} {rise fall rise′ fall′ row-rise row-fall : List ℕ} {r : Scanned} → WeighsTo t y rise fall → wanted ≡ getD types y 0 → start ≡ getD starts y 0 →
-        Scans (parse mostLevels (take held types) s wanted start) (replicate mostStreams 0) (replicate mostStreams 0) row-rise row-fall r →
-        RowPut rise y row-rise rise′ → RowPut fall y row-fall fall′ → WeighsTo t (y + 1) rise′ fall′
-    weights-more {wanted} {start} {rise} {fall} {rise′} {fall′} {row-rise} {row-fall} w p q z f g = record {
-      rises = λ x v h k. ⊎-elim (λ b. f .others x v (λ i. omega arith) k ∙ w .rises x v b k) (λ i. let d : x ≡ y = omega arith in rw d (own-rise v k)) (lt-or-ge x y);
-      falls = λ x v h k. ⊎-elim (λ b. g .others x v (λ i. omega arith) k ∙ w .falls x v b k) (λ i. let d : x ≡ y = omega arith in rw d (own-fall v k)) (lt-or-ge x y);
-      no-rise = λ x v h b k. f .others x v (λ i. omega arith) k ∙ w .no-rise x v (omega arith) b k;
-      no-fall = λ x v h b k. g .others x v (λ i. omega arith) k ∙ w .no-fall x v (omega arith) b k;
+    -- the place where the expression starts lies in the table, and its type is a type
+    pub can-scan : {kinds seen : List (List ℕ)} {wanted start : ℕ} → Tabulated kinds → Seen (take held types) seen → wanted ≡ getD types y 0 → start ≡ getD starts y 0 → CanScan kinds seen s wanted start
+    can-scan k z p q = record {
+      tabulated = k;
+      few = fine .bytes .1;
+      wants = omega (arith, p, type-at, fine .type-is y);
+      place = omega (arith, good-right _ s mostLevels _ _ (parsed p q) .behind, good-right _ s mostLevels _ _ (parsed p q) .within);
+      types = take held types;
+      rows = z;
     }
-      where
-        own-rise : (v : ℕ) → v < mostStreams → getD rise′ (y * mostStreams + v) 0 ≡ riseOf (edges t) y v
-        own-rise v k = f .own v k ∙ ap (λ (l : List ℕ). getD l v 0) (z .rises e _ (parsed p q)) ∙ rise-is v _ _ (zeros-noted v k)
 
-        own-fall : (v : ℕ) → v < mostStreams → getD fall′ (y * mostStreams + v) 0 ≡ fallOf (edges t) y v
-        own-fall v k = g .own v k ∙ ap (λ (l : List ℕ). getD l v 0) (z .falls e _ (parsed p q)) ∙ fall-is v _ _ (zeros-noted v k)
+    -- rows in which nothing was noted
+    module _ {seen : List (List ℕ)} (z : Seen (take held types) seen) (u : Unnoted seen) where
+      first-noted : (v : ℕ) → v < mostStreams → Extremes (references y e) y v (getD (noted rising e (column seenRise seen)) v 0) (getD (noted falling e (column seenFall seen)) v 0)
+      first-noted v h =
+          extremes e refers (column seenRise seen) (column seenFall seen) v (omega (arith, column-long seenRise seen, z .shape .long)) (omega (arith, column-long seenFall seen, z .shape .long))
+          (column-at seenRise seen v ∙ u v h .0) (column-at seenFall seen v ∙ u v h .1)
 
-module _ {s : List ℕ} {c : Scan} (x : Scanning s c) where
+      -- one equation more
+      pub weights-more :
+          {wanted start : ℕ} {rise fall rise′ fall′ : List ℕ} {seen′ : List (List ℕ)} {r : ℕ} → WeighsTo t y rise fall → wanted ≡ getD types y 0 → start ≡ getD starts y 0 →
+          Scanning (parse mostLevels (take held types) s wanted start) s (take held types) seen seen′ r →
+          RowPut rise y (column seenRise seen′) rise′ → RowPut fall y (column seenFall seen′) fall′ → WeighsTo t (y + 1) rise′ fall′
+      weights-more {wanted} {start} {rise} {fall} {rise′} {fall′} w p q n f g = record {
+        rises = λ x v h k. ⊎-elim (λ b. f .others x v (λ i. omega arith) k ∙ w .rises x v b k) (λ i. let d : x ≡ y = omega arith in rw d (own-rise v k)) (lt-or-ge x y);
+        falls = λ x v h k. ⊎-elim (λ b. g .others x v (λ i. omega arith) k ∙ w .falls x v b k) (λ i. let d : x ≡ y = omega arith in rw d (own-fall v k)) (lt-or-ge x y);
+        no-rise = λ x v h b k. f .others x v (λ i. omega arith) k ∙ w .no-rise x v (omega arith) b k;
+        no-fall = λ x v h b k. g .others x v (λ i. omega arith) k ∙ w .no-fall x v (omega arith) b k;
+      }
+        where
+          own-rise : (v : ℕ) → v < mostStreams → getD rise′ (y * mostStreams + v) 0 ≡ riseOf (edges t) y v
+          own-rise v k = f .own v k ∙ ap (λ (l : List ℕ). getD l v 0) (n .rises e _ (parsed p q)) ∙ rise-is v _ _ (first-noted v k)
+
+          own-fall : (v : ℕ) → v < mostStreams → getD fall′ (y * mostStreams + v) 0 ≡ fallOf (edges t) y v
+          own-fall v k = g .own v k ∙ ap (λ (l : List ℕ). getD l v 0) (n .falls e _ (parsed p q)) ∙ fall-is v _ _ (first-noted v k)
+
+module _ {s : List ℕ} {c : Scan} (x : Scanned s c) where
   whole : Sound s (x .table)
   whole = sound s (x .decodes)
 

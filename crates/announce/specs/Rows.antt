@@ -30,7 +30,7 @@ pub record Weighs (t : Table) (rise fall : List ℕ) : Type 0 where
   pub falls : (y v : ℕ) → y < mostStreams → v < mostStreams → getD fall (y * mostStreams + v) 0 ≡ fallOf (edges t) y v
 
 -- the scan is that of a table that these bytes decode to
-pub record Scanning (s : List ℕ) (c : Scan) : Type 0 where
+pub record Scanned (s : List ℕ) (c : Scan) : Type 0 where
   pub table : Table
   pub decodes : decode s ≡ decoded table
   pub scan-is : c ≡ scanOf (decoded table)

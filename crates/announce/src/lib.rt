@@ -4,9 +4,12 @@ ghost use mathlib.Core.Path.{_≡_};
 ghost use Prim.Native.Nat.{ℕ, _+_, _-_, _*_, _<_};
 ghost use lib.ListN.{length, getD};
 ghost use Rattle.limits.specs.Limits.{mostStreams, mostPairs};
+ghost use Rattle.basis.specs.Rows.{column};
+ghost use Rattle.expression.specs.Seen.{seenEntries};
 ghost use Rattle.square.specs.Square.{cell, riseBest};
 ghost use Rattle.announce.specs.Announced.{announced, refusal};
-ghost use Rattle.announce.specs.Rows.{RowPut, Weighs, Scanning, Fitting, numbersOf};
+ghost use Rattle.announce.specs.Rows.{RowPut, Weighs, Scanned, Fitting, numbersOf};
+use expression::SEEN_ENTRIES;
 use limits::PAIRS_MOST;
 use limits::STREAMS_MOST;
 use table::Outcome;
@@ -38,14 +41,19 @@ fn refusal_of(number: u8, place: usize) -> Checked
     }
 }
 
-// Puts a row of numbers where those of the stream `y` stand.
-fn put_row(all: &mut [u16; PAIRS_MOST], y: usize, row: &[u16; STREAMS_MOST])
-    requires { ⌜ (y < mostStreams) × (length (now all) ≡ mostPairs) ⌝ }
-    ensures { λ r. ⌜ RowPut (now (all .entry)) y (now (row .entry)) (now (all .exit)) ⌝ }
+// Puts the entry `i` of each stream's row where the numbers of the stream `y` stand.
+fn put_row(
+    all: &mut [u16; PAIRS_MOST],
+    y: usize,
+    seen: &[[u16; SEEN_ENTRIES]; STREAMS_MOST],
+    i: usize,
+)
+    requires { ⌜ (y < mostStreams) × (length (now all) ≡ mostPairs) × (i < seenEntries) ⌝ }
+    ensures { λ r. ⌜ RowPut (now (all .entry)) y (column i (now (seen .entry))) (now (all .exit)) ⌝ }
 {
     let mut v = 0;
     while v < STREAMS_MOST {
-        all[y * STREAMS_MOST + v] = row[v];
+        all[y * STREAMS_MOST + v] = seen[v][i];
         v += 1;
     }
 }
@@ -58,9 +66,10 @@ struct Weights {
 
 // The weights of a table that the scan accepted, each equation scanned once more from where its expression starts.
 fn weights_of(table: &[u8], scan: Scan) -> Weights
-    requires { ⌜ Scanning (now table) scan ⌝ }
-    ensures { λ r. ⌜ ((x : Scanning (now (table .entry)) scan) → Weighs (x .table) (r .rise) (r .fall)) ⌝ }
+    requires { ⌜ Scanned (now table) scan ⌝ }
+    ensures { λ r. ⌜ ((x : Scanned (now (table .entry)) scan) → Weighs (x .table) (r .rise) (r .fall)) ⌝ }
 {
+    let kinds = node::kind_table();
     let types = scan.types;
     let starts = scan.starts;
     let streams = scan.streams;
@@ -70,20 +79,11 @@ fn weights_of(table: &[u8], scan: Scan) -> Weights
     while y < streams {
         let wanted = types[y];
         let start = wire::short_size(starts[y]);
-        let mut row_rise = [0u16; STREAMS_MOST];
-        let mut row_fall = [0u16; STREAMS_MOST];
-        expression::scan_expr(
-            table,
-            &types,
-            streams,
-            wanted,
-            start,
-            limits::LEVELS_MOST,
-            &mut row_rise,
-            &mut row_fall,
-        );
-        put_row(&mut rise, y, &row_rise);
-        put_row(&mut fall, y, &row_fall);
+        let mut seen = [expression::UNSEEN; STREAMS_MOST];
+        expression::see(&types, streams, &mut seen);
+        expression::scan_expr(table, &kinds, &mut seen, wanted, start);
+        put_row(&mut rise, y, &seen, expression::SEEN_RISE);
+        put_row(&mut fall, y, &seen, expression::SEEN_FALL);
         y += 1;
     }
     Weights {
@@ -129,27 +129,25 @@ fn numbers_of(scan: Scan, look: [u16; STREAMS_MOST], fall: &[u16; PAIRS_MOST]) -
     let streams = scan.streams;
     let roles = scan.roles;
     let kept = kept::kept_of(&look, fall, streams);
-    let words = numbers::sum(&kept, streams);
-    if limits::STORE_MOST < words {
+    let totals = numbers::sums(&look, &kept, &roles, streams);
+    if limits::STORE_MOST < totals.words {
         return refusal_of(limits::STORE_WORDS, 0);
     }
-    let triggers = numbers::triggers(&roles, streams);
-    let room = records::room_of(streams - scan.inputs, triggers);
-    let closing = numbers::largest(&look, streams);
+    let room = records::room_of(streams - scan.inputs, totals.triggers);
     Checked {
         number: limits::ACCEPTED,
         place: 0,
         look: look,
         kept: kept,
-        words: words,
+        words: totals.words,
         room: room,
-        closing: closing,
+        closing: totals.closing,
     }
 }
 
 // Refusals 7 and 8, and the announced numbers, of a table that the scan accepted.
 fn weigh_scan(table: &[u8], scan: Scan) -> Checked
-    requires { ⌜ Scanning (now table) scan ⌝ }
+    requires { ⌜ Scanned (now table) scan ⌝ }
     ensures { λ r. ⌜ r ≡ announced (now (table .entry)) ⌝ }
 {
     let weights = weights_of(table, scan);

@@ -58,22 +58,10 @@ most-real f (suc n) = go (lt-or-ge (most f n) (f n)) (most-real f n)
     go (inr h) (inl e) = inl (omega arith)
     go (inr h) (inr q) = inr (q .0, omega (arith, q .1), omega (arith, q .2))
 
--- ---- a sum does not grow exactly where the further numbers are 0
-
-total-grows : (f : ℕ → ℕ) (s n : ℕ) → s ≤ n → total f s ≤ total f n
-unfolding total
-total-grows f s zero h = rw (let e : s ≡ 0 = omega arith in e) (omega arith)
-total-grows f s (suc n) h = ⊎-elim (λ l. omega (arith, total-grows f s n (le-of-suc-le-suc l))) (λ e. rw e (omega arith)) (lt-or-eq h)
+-- ---- a sum does not grow where the further numbers are 0
 
 pub total-zeros : (f : ℕ → ℕ) (s n : ℕ) → s ≤ n → ((v : ℕ) → s ≤ v → v < n → f v ≡ 0) → total f n ≡ total f s
 unfolding total
 total-zeros f s zero h z = rw (let e : s ≡ 0 = omega arith in e) refl
 total-zeros f s (suc n) h z =
     ⊎-elim (λ l. omega (arith, total-zeros f s n (le-of-suc-le-suc l) (λ v a b. z v a (omega arith)), z n (le-of-suc-le-suc l) (omega arith))) (λ e. rw e refl) (lt-or-eq h)
-
-pub zeros-total : (f : ℕ → ℕ) (s n : ℕ) → total f n ≡ total f s → (v : ℕ) → s ≤ v → v < n → f v ≡ 0
-unfolding total
-zeros-total f s zero e v h l = absurd (not-suc-le-zero l)
-zeros-total f s (suc n) e v h l =
-    let g : total f s ≤ total f n = total-grows f s n (omega arith) in
-    ⊎-elim (λ k. zeros-total f s n (omega arith) v h k) (λ q. rw q (omega arith)) (lt-or-eq (le-of-suc-le-suc l))

@@ -3,6 +3,7 @@ pub mod Parts
 pub mod Edges
 pub mod Sums
 pub mod Firsts
+pub mod Rows
 pub mod Written
 pub mod Given
 pub mod Notes

@@ -168,18 +168,20 @@ module _ (rs es : List Edge) {y v s : ℕ} {rise fall : ℕ → ℕ} (x : Row rs
         mosts = λ b g. mosts′ d q b g (ℕ-discrete b v);
       }
 
--- the same, of the numbers that were read
-pub read-none : {y v : ℕ} {look rise fall : ℕ → ℕ} {top : ℕ} {t m : List ℕ} → top ≡ rise v → top ≡ 0 → (s : ℕ) → v < s → NotedCell true y v s look rise fall t m t m
-read-none e z s l rs es x = cell-none rs es x l (omega arith)
+-- the same, of the numbers that were read: r and f are the notes at v
+pub read-none : {y v r f top : ℕ} {look : ℕ → ℕ} {t m : List ℕ} → top ≡ r → top ≡ 0 →
+    (s : ℕ) (rise fall : ℕ → ℕ) → v < s → rise v ≡ r → fall v ≡ f → NotedCell true y v s look rise fall t m t m
+read-none e z s rise fall l p q rs es x = cell-none rs es x l (omega arith)
 
-module _ {y v : ℕ} {look rise : ℕ → ℕ} {top have ahead : ℕ} (top-is : top ≡ rise v) (have-is : have ≡ look y) (ahead-is : ahead ≡ look v) (some : top ≡ 0 → ⊥) where
-  pub read-lacks : {fall : ℕ → ℕ} → have + riseOfZero < top + ahead → (s : ℕ) → v < s → (rs : List Edge) → Row rs y rise fall s → Lacks look rs
-  read-lacks h s l rs x = cell-lacks rs x l (omega arith) (omega arith)
+module _ {y v r f : ℕ} {look : ℕ → ℕ} {top have ahead : ℕ} (top-is : top ≡ r) (have-is : have ≡ look y) (ahead-is : ahead ≡ look v) (some : top ≡ 0 → ⊥) where
+  pub read-lacks : have + riseOfZero < top + ahead →
+      (s : ℕ) (rise fall : ℕ → ℕ) → v < s → rise v ≡ r → fall v ≡ f → (rs : List Edge) → Row rs y rise fall s → Lacks look rs
+  read-lacks h s rise fall l p q rs x = cell-lacks rs x l (omega arith) (omega arith)
 
-  pub read-noted : {fall : ℕ → ℕ} {low mask most : ℕ} {t m : List ℕ} → y < mostStreams → v < mostStreams → low ≡ fall v → top + ahead ≤ have + riseOfZero →
+  pub read-noted : {low mask most : ℕ} {t m : List ℕ} → y < mostStreams → v < mostStreams → low ≡ f → top + ahead ≤ have + riseOfZero →
       mask ≡ marked (getD t y 0) v (eqb (have + riseOfZero) (top + ahead)) → most ≡ max (getD m v 0) ((have + low) - (fallOfZero + ahead)) →
-      (s : ℕ) → v < s → NotedCell true y v s look rise fall t m (set t y mask) (set m v most)
-  read-noted {low} y32 v32 q h e f s l rs es x w =
-      rw (e, f) (cell-noted rs es x l y32 v32 (omega arith) (omega arith) w (eqb (have + riseOfZero) (top + ahead))
+      (s : ℕ) (rise fall : ℕ → ℕ) → v < s → rise v ≡ r → fall v ≡ f → NotedCell true y v s look rise fall t m (set t y mask) (set m v most)
+  read-noted {low} y32 v32 g h e d s rise fall l p q rs es x w =
+      rw (e, d) (cell-noted rs es x l y32 v32 (omega arith) (omega arith) w (eqb (have + riseOfZero) (top + ahead))
       (λ b. omega (arith, eqb-true (have + riseOfZero) (top + ahead) b)) (λ b z. eqb-false (have + riseOfZero) (top + ahead) b (omega arith))
       ((have + low) - (fallOfZero + ahead)) (omega arith))

@@ -1,3 +1,4 @@
 pub mod Certificate
+pub mod Forgotten
 pub mod Tally
 pub mod Line

@@ -14,6 +14,7 @@ use Rattle.basis.specs.Edges.{Edge, Has, among}
 use Rattle.walks.specs.Walks.{Edges}
 use Rattle.expression.specs.References.{Refers, Extremes}
 use Rattle.certificate.specs.Certificate.{Slack, Tight}
+use Rattle.certificate.specs.Forgotten.{rises, falls, Forgotten}
 
 -- a number as a set of streams: bit m v is 1 where v is in it
 unfoldable pub bit : ℕ → ℕ → ℕ
@@ -59,7 +60,8 @@ abbrev pub NotedCell : Bool → ℕ → ℕ → ℕ → (ℕ → ℕ) → (ℕ �
 NotedCell true y v s look rise fall t m t′ m′ = (rs es : List Edge) → Row rs y rise fall s → Tally (Upto rs es v) look t m → Tally (Upto rs es (v + 1)) look t′ m′
 NotedCell false y v s look rise fall t m t′ m′ = (rs : List Edge) → Row rs y rise fall s → Lacks look rs
 
--- what noting a row does, by its answer: the row's edges are one more part of those noted, or one of them has no slack
-abbrev pub NotedRow : Bool → ℕ → ℕ → (ℕ → ℕ) → (ℕ → ℕ) → (ℕ → ℕ) → List ℕ → List ℕ → List ℕ → List ℕ → Type 0
-NotedRow true y s look rise fall t m t′ m′ = (rs es : List Edge) → Row rs y rise fall s → Tally (among es) look t m → Tally (among (rs ++ es)) look t′ m′
-NotedRow false y s look rise fall t m t′ m′ = (rs : List Edge) → Row rs y rise fall s → Lacks look rs
+-- what noting a row does, by its answer: the row's edges are one more part of those noted and the row is forgotten, or one of them has no slack
+abbrev pub NotedRow : Bool → ℕ → ℕ → (ℕ → ℕ) → List (List ℕ) → List ℕ → List ℕ → List (List ℕ) → List ℕ → List ℕ → Type 0
+NotedRow true y s look seen t m seen′ t′ m′ =
+    ((rs es : List Edge) → Row rs y (rises seen) (falls seen) s → Tally (among es) look t m → Tally (among (rs ++ es)) look t′ m′) × Forgotten s seen seen′
+NotedRow false y s look seen t m seen′ t′ m′ = (rs : List Edge) → Row rs y (rises seen) (falls seen) s → Lacks look rs

@@ -1,16 +1,22 @@
 // A record's look-aheads and kept numbers as a certificate: tested in one pass over the equations' edges, without the square of longest walks
 // (document 01, "What the check announces"). `tight` holds each stream's tight targets as bits, `most` the largest slack of an edge into each
-// stream.
+// stream, `seen` what the scan kept of the equation at hand.
 ghost use mathlib.Core.Path.{_≡_};
+ghost use mathlib.Core.Bool.{cond};
 ghost use mathlib.Core.List.{List};
 ghost use Prim.Native.Nat.{ℕ, _+_, _-_, _<_, _≤_, max};
+ghost use lib.ListN.{length};
 ghost use Rattle.basis.specs.Firsts.{of};
 ghost use Rattle.limits.specs.Limits.{mostStreams};
 ghost use Rattle.basis.specs.Edges.{Edge, among};
+ghost use Rattle.basis.specs.Rows.{Shaped};
 ghost use Rattle.walks.specs.Walks.{Within};
+ghost use Rattle.expression.specs.Seen.{seenEntries};
 ghost use Rattle.certificate.specs.Certificate.{Settled};
+ghost use Rattle.certificate.specs.Forgotten.{rises, falls, wiped};
 ghost use Rattle.certificate.specs.Tally.{marked, Tally, NotedCell, NotedRow};
 ghost use Rattle.certificate.specs.Line.{Ready, InLine, Agreed};
+use expression::SEEN_ENTRIES;
 use limits::STREAMS_MOST;
 
 // The notes of the weight 0, to reckon with.
@@ -38,21 +44,21 @@ fn looser(most: u32, have: u32, want: u32) -> u32
     }
 }
 
-// Notes the edges of y's equation to `v`: whether each has slack.
+// Notes the edges of y's equation to `v`: whether each has slack. What was seen of them is cleared, for the next equation.
 fn note_cell(
     tight: &mut [u32; STREAMS_MOST],
     most: &mut [u32; STREAMS_MOST],
     look: &[u16; STREAMS_MOST],
-    rise: &[u16; STREAMS_MOST],
-    fall: &[u16; STREAMS_MOST],
+    seen: &mut [[u16; SEEN_ENTRIES]; STREAMS_MOST],
     y: usize,
     v: usize,
 ) -> bool
     requires { ⌜ (y < mostStreams) × (v < mostStreams) ⌝ }
-    ensures { λ r. ⌜ ((s : ℕ) → v < s → NotedCell r y v s (of (now (look .entry))) (of (now (rise .entry))) (of (now (fall .entry)))
-        (now (tight .entry)) (now (most .entry)) (now (tight .exit)) (now (most .exit))) ⌝ }
+    ensures { λ r. ⌜ ((s : ℕ) (rise fall : ℕ → ℕ) → v < s → rise v ≡ rises (now (seen .entry)) v → fall v ≡ falls (now (seen .entry)) v
+        → NotedCell r y v s (of (now (look .entry))) rise fall (now (tight .entry)) (now (most .entry)) (now (tight .exit)) (now (most .exit)))
+        × (now (seen .exit) ≡ cond r (wiped v (now (seen .entry))) (now (seen .entry))) ⌝ }
 {
-    let top = wire::short_word(rise[v]);
+    let top = wire::short_word(seen[v][expression::SEEN_RISE]);
     if top == 0 {
         return true;
     }
@@ -65,29 +71,30 @@ fn note_cell(
     tight[y] = mark(tight[y], v, have + RISE_OF_ZERO == want);
     most[v] = looser(
         most[v],
-        have + wire::short_word(fall[v]),
+        have + wire::short_word(seen[v][expression::SEEN_FALL]),
         FALL_OF_ZERO + ahead,
     );
+    seen[v][expression::SEEN_RISE] = 0;
+    seen[v][expression::SEEN_FALL] = 0;
     true
 }
 
-// Notes the edges of y's equation, whose largest and smallest weights `rise` and `fall` hold: whether each has slack.
+// Notes the edges of y's equation, whose largest and smallest weights `seen` holds: whether each has slack. Where each has, they are forgotten.
 pub fn note_row(
     tight: &mut [u32; STREAMS_MOST],
     most: &mut [u32; STREAMS_MOST],
     look: &[u16; STREAMS_MOST],
-    rise: &[u16; STREAMS_MOST],
-    fall: &[u16; STREAMS_MOST],
+    seen: &mut [[u16; SEEN_ENTRIES]; STREAMS_MOST],
     y: usize,
     s: usize,
 ) -> bool
-    requires { ⌜ (y < mostStreams) × (s ≤ mostStreams) ⌝ }
-    ensures { λ r. ⌜ NotedRow r y s (of (now (look .entry))) (of (now (rise .entry))) (of (now (fall .entry)))
-        (now (tight .entry)) (now (most .entry)) (now (tight .exit)) (now (most .exit)) ⌝ }
+    requires { ⌜ (y < mostStreams) × (s ≤ mostStreams) × Shaped mostStreams seenEntries (now seen) ⌝ }
+    ensures { λ r. ⌜ NotedRow r y s (of (now (look .entry))) (now (seen .entry)) (now (tight .entry)) (now (most .entry))
+        (now (seen .exit)) (now (tight .exit)) (now (most .exit)) ⌝ }
 {
     let mut v = 0;
     while v < s {
-        if note_cell(tight, most, look, rise, fall, y, v) {
+        if note_cell(tight, most, look, seen, y, v) {
             v += 1;
         } else {
             return false;
@@ -157,10 +164,9 @@ fn numbers_agree(
 
 // Whether the streams below `s` can be put in a line, each behind its tight targets; `order` is lent for it.
 fn ordered(tight: &[u32; STREAMS_MOST], s: usize, order: &mut [u8; STREAMS_MOST]) -> bool
-    requires { ⌜ s ≤ mostStreams ⌝ }
+    requires { ⌜ (s ≤ mostStreams) × (length (now order) ≡ mostStreams) ⌝ }
     ensures { λ r. ⌜ InLine r (now (tight .entry)) s (now (order .exit)) ⌝ }
 {
-    *order = [0u8; STREAMS_MOST];
     let mut rest: u32 = 4294967295;
     let mut n = 0;
     while n < s {
@@ -185,7 +191,7 @@ pub fn settle(
     s: usize,
     order: &mut [u8; STREAMS_MOST],
 ) -> bool
-    requires { ⌜ s ≤ mostStreams ⌝ }
+    requires { ⌜ (s ≤ mostStreams) × (length (now order) ≡ mostStreams) ⌝ }
     ensures { λ r. ⌜ ((es : List Edge) → Within (among es) s → Tally (among es) (of (now (look .entry))) (now (tight .entry)) (now (most .entry))
         → Settled r (among es) s (of (now (look .entry))) (of (now (kept .entry))) (now (order .exit))) ⌝ }
 {

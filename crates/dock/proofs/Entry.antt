@@ -1,6 +1,6 @@
 -- An entry meets its contract, whatever slices it has: its record is lent by `&mut`, the call by value gives a definition's reply, store and
--- output (`Gives`), and the entry leaves the same (`Lends`). Assumes nothing.
-use mathlib.Core.Path.{_≡_, refl, ap, subst}
+-- output (`Gives`), and the entry leaves the same (`Lends`): what it does not write back, the definition leaves (`Leaves`). Assumes nothing.
+use mathlib.Core.Path.{_≡_, refl, sym, ap, subst}
 use Prim.Native.Nat.{ℕ, suc}
 use mathlib.Core.Bool.{Bool, true, false}
 use mathlib.Core.List.{List, [], _∷_, _++_}
@@ -43,7 +43,7 @@ use Rattle.dock.proofs.Told.Laws as D′
 use Rattle.dock.proofs.Giving.{lends-of}
 use Rattle.dock.proofs.Locals.{values}
 use Rattle.dock.proofs.Slices.{Passed, shared, lent, params}
-use Rattle.dock.proofs.Walk.{told-value, told-is, entry, Ends, Asked, AtEnd, walks}
+use Rattle.dock.proofs.Walk.{Unchanged, Left-by, told-value, told-is, entry, Ends, Asked, AtEnd, walks}
 
 -- ---- the signature
 
@@ -164,6 +164,13 @@ module _ {n : ℕ} (ps : List (Param (suc n))) (takes : Bool) (x : (κs : Lfts (
   Met C callee = (κs : Lfts (suc n)) (qs : Shares (suc n)) (d : Record) (a : Slices ps κs) (are : AreOf ps κs a)
       → Asked 𝓤 H A C callee takes d (passed ps κs a are) (toks 𝓤 A n (κs .1) (qs .1)) (owns (typesAt (slots ps) κs) a (ValsOf ps κs a)) (Lasts ps κs d a takes) (lasts ps κs d a takes) (Said κs d a)
 
+  -- that the definition leaves of a record what the entry does not write back
+  abbrev pub Leaves : Type 0
+  Leaves = (κs : Lfts (suc n)) (d : Record) (a : Slices ps κs) → Unchanged takes d (x κs d a .reply .held)
+
+  left-by : Leaves → (κs : Lfts (suc n)) (d : Record) (a : Slices ps κs) → Left-by takes d (Lasts ps κs d a takes) (Said κs d a)
+  left-by leaves κs d a r zs e = subst (λ (b : Reply). Unchanged takes d (b .held)) (sym (e .reply-is)) (leaves κs d a)
+
   module _ (W : Given 𝓤 H A) (κs : Lfts (suc n)) (qs : Shares (suc n)) (a : Args (ended ps .signature) κs) where
     abbrev After : Val → SProp 𝓤
     After = walkOf 𝓤 H A (ended ps) (stayed ps) (clauses ps x st out 𝓤) .post ((κs, qs, tt, a, (ptr-vals (a .0), ValsOf ps κs (a .1))), tt)
@@ -184,24 +191,24 @@ module _ {n : ℕ} (ps : List (Param (suc n))) (takes : Bool) (x : (κs : Lfts (
 
   pub entry-meets : (W : Given 𝓤 H A) (𝓣 : Tables 𝓤 H) (F : Fn) (callee : Name)
       → ((κs : Lfts (suc n)) (d : Record) (a : Slices ps κs) (are : AreOf ps κs a) → F ≡ entry takes d (passed ps κs a are) (F .lifetimes) (F .params) callee)
-      → Met (𝓣 .C) callee → Meets 𝓤 H A (ended ps .signature) (WpFn 𝓤 H (𝓣 .C) (𝓣 .Λ) F) (closing 𝓤 H A (ended ps) (clauses ps x st out 𝓤))
-  entry-meets W 𝓣 F callee code-is met =
+      → Met (𝓣 .C) callee → Leaves → Meets 𝓤 H A (ended ps .signature) (WpFn 𝓤 H (𝓣 .C) (𝓣 .Λ) F) (closing 𝓤 H A (ended ps) (clauses ps x st out 𝓤))
+  entry-meets W 𝓣 F callee code-is met leaves =
       walk-meets 𝓤 H A (ended ps) (stayed ps) W (goes-ref 𝓤 H A W (suc n) 0 tt (plain (λ _. T.the-row)), all-pass 𝓤 H A W (suc n) (slots ps) (kept ps)) (clauses ps x st out 𝓤)
       (WpFn 𝓤 H (𝓣 .C) (𝓣 .Λ) F) (WpFn-mono 𝓤 H (W .laws) 𝓣 F)
       (walked 𝓤 H A (ended ps) (stayed ps) (clauses ps x st out 𝓤) (WpFn 𝓤 H (𝓣 .C) (𝓣 .Λ) F) (λ κs. (ptr-vals, spells ps κs)) (λ κs. (mut-tells (named 0) (κs .0) T.the-row, tells ps κs))
       (λ κs qs bounds a g are. via 𝓤 _ (fst∗ 𝓤 _ (emp 𝓤))
       (same-run _ 𝓣 (After W κs qs a) (code-is κs (a .0 .now) (a .1) (are .1)) (ap (λ (vs : List Val). vptr (a .0 .ptr .0) (a .0 .ptr .1) ∷ vs) (flat-is ps κs (a .1) (are .1)))
       (walks 𝓤 H A W (𝓣 .C) (𝓣 .Λ) (fmOf 𝓤 H (W .laws) 𝓣) callee takes (passed ps κs (a .1) (are .1)) (F .lifetimes) (F .params) (κs .0) (qs .0) (a .0) (toks 𝓤 A n (κs .1) (qs .1)) (owns (typesAt (slots ps) κs) (a .1) (ValsOf ps κs (a .1)))
-      (Lasts ps κs (a .0 .now) (a .1) takes) (lasts ps κs (a .0 .now) (a .1) takes) (Said κs (a .0 .now) (a .1)) (After W κs qs a) (met κs qs (a .0 .now) (a .1) (are .1)) (ends W κs qs a)))))
+      (Lasts ps κs (a .0 .now) (a .1) takes) (lasts ps κs (a .0 .now) (a .1) takes) (Said κs (a .0 .now) (a .1)) (After W κs qs a) (met κs qs (a .0 .now) (a .1) (are .1)) (left-by leaves κs (a .0 .now) (a .1)) (ends W κs qs a)))))
 
 -- over the machine's tables: me is the entry's name, F its code
 module _ {n : ℕ} (ps : List (Param (suc n))) (takes : Bool) (x : (κs : Lfts (suc n)) → Record → Slices ps κs → Left) (st out : (κs : Lfts (suc n)) → AtExit ps κs → List ℕ)
     {M : Type 1} (𝓤 : URA M) (H : Heap 𝓤) (𝓜 : Model 𝓤 H) (𝓖 : GhostRules 𝓤 H) (𝓡 : Running 𝓤 H 𝓜) (γ : Env) (me : Name) (F : Fn) (callee : Name) where
   pub entry-spec : Closed 𝓤 H (tables 𝓤 H 𝓜 𝓡 γ .C) (tables 𝓤 H 𝓜 𝓡 γ .Λ) me F
       → ((κs : Lfts (suc n)) (d : Record) (a : Slices ps κs) (are : AreOf ps κs a) → F ≡ entry takes d (passed ps κs a are) (F .lifetimes) (F .params) callee)
-      → Met ps takes x st out 𝓤 H (𝓖 .A) (tables 𝓤 H 𝓜 𝓡 γ .C) callee
+      → Met ps takes x st out 𝓤 H (𝓖 .A) (tables 𝓤 H 𝓜 𝓡 γ .C) callee → Leaves ps takes x st out 𝓤 H (𝓖 .A)
       → Meets 𝓤 H (𝓖 .A) (ended ps .signature) (𝓡 .run (γ me)) (closing 𝓤 H (𝓖 .A) (ended ps) (clauses ps x st out 𝓤))
   unfolding tablesOf
-  entry-spec closed code-is met =
+  entry-spec closed code-is met leaves =
       entered 𝓤 H (tripleOf 𝓤 H (𝓖 .A) (ended ps .signature) (closing 𝓤 H (𝓖 .A) (ended ps) (clauses ps x st out 𝓤))) (tables 𝓤 H 𝓜 𝓡 γ .C) (tables 𝓤 H 𝓜 𝓡 γ .Λ) me F closed
-      (entry-meets ps takes x st out 𝓤 H (𝓖 .A) (givenOf 𝓤 H 𝓜 𝓖) (tablesOf 𝓤 H 𝓜 (tables 𝓤 H 𝓜 𝓡 γ)) F callee code-is met)
+      (entry-meets ps takes x st out 𝓤 H (𝓖 .A) (givenOf 𝓤 H 𝓜 𝓖) (tablesOf 𝓤 H 𝓜 (tables 𝓤 H 𝓜 𝓡 γ)) F callee code-is met leaves)

@@ -1,5 +1,6 @@
 pub mod Phases
 pub mod Giving
+pub mod Keeping
 pub mod Locals
 pub mod Slices
 pub mod Walk

@@ -75,6 +75,11 @@ lentClose s d = lent s d [] [] (closeCall s (runOf d))
 abbrev pub lentDrain : (s : List ℕ) → Record → (st out : List ℕ) → Left
 lentDrain s d st out = lent s d st out (drainCall s (runOf d) st out)
 
+-- The record behind the reference after an entry of an open run has written back what a call may change: d is the record that was lent, e the one
+-- that the call by value handed back. It is e (`Keeping.antt`): no such call changes a look-ahead or a kept number.
+abbrev pub writtenBack : (d e : Record) → Record
+writtenBack d e = record { look = d .look; kept = d .kept; rows = e .rows; done = e .done; phase = e .phase }
+
 -- what a call by value over the dock's record left is what the definition says
 pub record Gives (x : Left) (a : Reply) (st out : List ℕ) : Type 0 where
   pub reply-is : a ≡ x .reply

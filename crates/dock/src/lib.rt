@@ -1,5 +1,6 @@
 // The dock's entries (document 01, "A run"): the dock "holds one record and lends it to be changed; that entry gives what the by-value
-// call gives". They are called from C and Rust (include/glasspuddle.h). It assumes nothing.
+// call gives". They are called from C and Rust (include/glasspuddle.h). An entry of an open run writes back rows, closing turns done and phase:
+// no call changes the others (proofs/Keeping.antt). It assumes nothing.
 ghost use mathlib.Core.Path.{_≡_};
 ghost use mathlib.Core.List.{[]};
 ghost use Rattle.announce.specs.Announced.{announced};
@@ -199,7 +200,9 @@ pub extern "C" fn glasspuddle_row(
 {
     let held = *record;
     let reply = held.row(table, store, row, out);
-    *record = reply.held;
+    record.rows = reply.held.rows;
+    record.done = reply.held.done;
+    record.phase = reply.held.phase;
     reply.told
 }
 
@@ -210,7 +213,9 @@ pub extern "C" fn glasspuddle_close(record: &mut Record, table: &[u8]) -> Told
 {
     let held = *record;
     let reply = held.close(table);
-    *record = reply.held;
+    record.rows = reply.held.rows;
+    record.done = reply.held.done;
+    record.phase = reply.held.phase;
     reply.told
 }
 
@@ -227,6 +232,8 @@ pub extern "C" fn glasspuddle_drain(
 {
     let held = *record;
     let reply = held.drain(table, store, out);
-    *record = reply.held;
+    record.rows = reply.held.rows;
+    record.done = reply.held.done;
+    record.phase = reply.held.phase;
     reply.told
 }

@@ -1,6 +1,6 @@
-pub mod Offsets
 pub mod References
 pub mod Heads
+pub mod Leaves
 pub mod Operands
 pub mod Steps
 pub mod Turns

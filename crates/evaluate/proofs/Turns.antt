@@ -20,8 +20,8 @@ use Rattle.run.proofs.Parts.{Part, part-start, part-write, part-skip, part-valu
 use Rattle.store.specs.Store.{heldOf, writtenOf}
 use Rattle.meaning.specs.Plans.{planOf, FitsIn}
 use Rattle.evaluate.specs.Evaluation.{valueIn}
-use Rattle.evaluate.specs.Turns.{Turnable, Stepped, Turns}
-use Rattle.evaluate.proofs.Steps.{stream-ready}
+use Rattle.evaluate.specs.Turns.{Turnable, Turns}
+use Rattle.evaluate.proofs.Steps.{Stepped}
 
 -- the streams below rank i have been written
 abbrev pub finOf : (ℕ → ℕ) → (streams i w : ℕ) → Bool
@@ -56,12 +56,12 @@ fin-same rank streams i v w one ne = go (lt-or-ge w streams)
     go (inl h) = ap (λ (b : Bool). ltb w streams && b) (inner h (lt-or-ge (rank w) i))
     go (inr h) = rw (le-ltb _ _ h)
 
-module _ {s types look kept parts starts order : List ℕ} {inputs streams n : ℕ} (x : Turnable s types look kept parts starts order inputs streams n) where
+module _ {s types look kept starts order : List ℕ} {inputs streams n : ℕ} (x : Turnable s types look kept starts order inputs streams n) where
   abbrev pub plan : Plan Value ℕ ℕ
   plan = planOf inputs streams types (x .eqs) (of look) (of kept) (x .closing) (x .room) (x .wellFormed)
 
   -- the same of another store of the same length
-  abbrev pub moved : {m : ℕ} → m ≡ n → Turnable s types look kept parts starts order inputs streams m
+  abbrev pub moved : {m : ℕ} → m ≡ n → Turnable s types look kept starts order inputs streams m
   moved e =
       record {
         eqs = x .eqs;
@@ -73,7 +73,6 @@ module _ {s types look kept parts starts order : List ℕ} {inputs streams n : �
         announced = x .announced;
         ordered = x .ordered;
         fits = rw e (x .fits);
-        part = λ v h. rw e (x .part v h);
         wanted = x .wanted;
         behind = x .behind;
         parsed = x .parsed;
@@ -84,19 +83,19 @@ module _ {s types look kept parts starts order : List ℕ} {inputs streams n : �
   named-by i h e = omega (arith, e, x .ordered .named i h)
 
 -- how far the turn is: the streams below rank i have been written
-abbrev pub Upto : (s types look kept parts starts order : List ℕ) (inputs streams : ℕ) (ws st : List ℕ) (n t i : ℕ) (cur : List ℕ) → Type 0
-Upto s types look kept parts starts order inputs streams ws st n t i cur =
-    (x : Turnable s types look kept parts starts order inputs streams (length st)) →
+abbrev pub Upto : (s types look kept starts order : List ℕ) (inputs streams : ℕ) (ws st : List ℕ) (n t i : ℕ) (cur : List ℕ) → Type 0
+Upto s types look kept starts order inputs streams ws st n t i cur =
+    (x : Turnable s types look kept starts order inputs streams (length st)) →
     Part (plan x) (x .rank) (FitsIn types) (x .announced) n t ws st (x .fits) (finOf (x .rank) streams i) cur
 
-module _ (s types look kept parts starts order : List ℕ) (inputs streams : ℕ) (ws st : List ℕ) (n t : ℕ) where
+module _ (s types look kept starts order : List ℕ) (inputs streams : ℕ) (ws st : List ℕ) (n t : ℕ) where
   abbrev All : Type 0
-  All = Turnable s types look kept parts starts order inputs streams (length st)
+  All = Turnable s types look kept starts order inputs streams (length st)
 
   abbrev The : All → (ℕ → Bool) → List ℕ → Type 0
   The x fin cur = Part (plan x) (x .rank) (FitsIn types) (x .announced) n t ws st (x .fits) fin cur
 
-  pub upto-none : Upto s types look kept parts starts order inputs streams ws st n t 0 st
+  pub upto-none : Upto s types look kept starts order inputs streams ws st n t 0 st
   upto-none x =
       part-start (plan x) (x .rank) (FitsIn types) (x .announced) n t ws st (x .fits) (finOf (x .rank) streams 0) (λ v l. fin-none (x .rank) streams v)
 
@@ -113,7 +112,7 @@ module _ (s types look kept parts starts order : List ℕ) (inputs streams : ℕ
     only : (w : ℕ) → (w ≡ y → ⊥) → finOf (x .rank) streams (i + 1) w ≡ finOf (x .rank) streams i w
     only w ne = fin-same (x .rank) streams i y w (λ l e. sym (x .ordered .back w l) ∙ ap (λ (k : ℕ). getD order k 0) e) ne
 
-    module _ (e : length cur ≡ length st) {after : List ℕ} (g : Stepped s types look kept parts starts inputs ws cur n t y after) where
+    module _ (e : length cur ≡ length st) {after : List ℕ} (g : Stepped s types look kept starts order inputs streams ws cur n t y after) where
       -- the value that the step writes is the one due
       value-due : due (of look) n t y ≡ true → g .value ≡ dueOf (plan x) n t ws st y
       unfolding valueIn heldOf
@@ -124,10 +123,10 @@ module _ (s types look kept parts starts order : List ℕ) (inputs streams : ℕ
 
           go : (y < inputs) ⊎ (inputs ≤ y) → g .value ≡ dueOf (plan x) n t ws st y
           go (inl l) =
-              g .fresh d .input l
+              g .input d l
               ∙ sym (due-input (plan x .spec) (of look) (x .rank) (of kept) (x .announced .schedule) (x .announced .keeps) (plan x .blank) n t _ (view (plan x) st) y inside l)
           go (inr l) =
-              g .fresh d .output l (stream-ready (moved x e) y inside .equation l)
+              g .output d l (moved x e)
               ∙ part-value (plan x) (x .rank) (FitsIn types) (x .announced) n t ws st (x .fits) (finOf (x .rank) streams i) cur y (t - getD look y 0) pt inside l
               (omega (arith, f .0)) (omega (arith, f .0, f .1)) (λ w lw k. fin-yes (x .rank) streams i w lw (omega (arith, of-rank, k)))
 
@@ -142,11 +141,11 @@ module _ (s types look kept parts starts order : List ℕ) (inputs streams : ℕ
           (part-skip (plan x) (x .rank) (FitsIn types) (x .announced) n t ws st (x .fits) (finOf (x .rank) streams i) (finOf (x .rank) streams (i + 1)) cur y pt d only)
 
   pub upto-more : (i v : ℕ) {cur after : List ℕ} → length cur ≡ length st → i < streams → v ≡ getD order i 0
-      → Stepped s types look kept parts starts inputs ws cur n t v after
-      → Upto s types look kept parts starts order inputs streams ws st n t i cur → Upto s types look kept parts starts order inputs streams ws st n t (i + 1) after
+      → Stepped s types look kept starts order inputs streams ws cur n t v after
+      → Upto s types look kept starts order inputs streams ws st n t i cur → Upto s types look kept starts order inputs streams ws st n t (i + 1) after
   upto-more i v {cur} {after} e h ev g u x = step-by x i cur (u x) h e (rw ev at g) (due (of look) n t (getD order i 0)) refl
 
-  pub upto-all : (i : ℕ) {cur : List ℕ} → streams ≤ i → Upto s types look kept parts starts order inputs streams ws st n t i cur → Turns s types look kept parts starts order inputs streams ws st n t cur
+  pub upto-all : (i : ℕ) {cur : List ℕ} → streams ≤ i → Upto s types look kept starts order inputs streams ws st n t i cur → Turns s types look kept starts order inputs streams ws st n t cur
   upto-all i h u x =
       part-end (plan x) (x .rank) (FitsIn types) (x .announced) n t ws st (x .fits) (finOf (x .rank) streams i) _ (u x)
       (λ v l. fin-yes (x .rank) streams i v l (omega (arith, x .announced .schedule .small v l)))

@@ -1,56 +1,46 @@
-// The evaluator over the table's own bytes, and the turn over the lent store (document 01, "A run"). `types`, `look`, `kept`, `parts`,
-// `starts` and `order` hold a number for each stream; `known` is the number of rows known.
+// The evaluator over the table's own bytes, and the turn over the lent store (document 01, "A run"). `types`, `look`, `kept`, `starts` and
+// `order` hold a number for each stream; `known` is the number of rows known, `frame` that of the turn.
 ghost use mathlib.Core.Path.{_≡_};
-ghost use Prim.Native.Nat.{_+_, _≤_, _<_, _^_};
 ghost use lib.ListN.{length};
-ghost use Rattle.basis.specs.Parts.{up, down};
-ghost use Rattle.limits.specs.Limits.{mostStreams};
-ghost use Rattle.node.specs.Kinds.{ruleOf};
-ghost use Rattle.store.specs.Store.{PartIn};
-ghost use Rattle.evaluate.specs.Evaluation.{referredOf, Readable, evaluatedOf, Evaluates};
-ghost use Rattle.evaluate.specs.Turns.{Ahead, CanFresh, CanStep, CanTurn, Fresh, Stepped, Turns};
+ghost use Rattle.node.specs.Kinds.{Tabulated};
+ghost use Rattle.store.specs.Store.{Framed};
+ghost use Rattle.evaluate.specs.Evaluation.{referredIn, Referable, evaluatedOf, LeafStands, OperatorStands, Evaluates, EvaluatesLeaf};
+ghost use Rattle.evaluate.specs.Turns.{CanTurn, Turns};
 use limits::STREAMS_MOST;
+use node::ENTRIES;
+use node::KINDS_MOST;
 use node::Node;
+use store::FRAME_ENTRIES;
+use store::FRAME_ROWS;
+use store::KNOWN;
+use store::POSITION;
+use store::TURN;
+use store::TYPE;
 use value::Value;
 use wire::byte_size;
 
-// An offset is up less down, one of the two being 0.
-fn up_of(k: i8) -> u64
-    ensures { λ r. ⌜ (r ≡ up k) × (r ≤ 128) ⌝ }
-{
-    if k < 0 { 0 } else { k as u64 }
-}
+// The note of the weight 0, to reckon with.
+const RISE_OF_ZERO: u64 = limits::RISE_OF_ZERO as u64;
 
-fn down_of(k: i8) -> u64
-    ensures { λ r. ⌜ r ≡ down k ⌝ }
-{
-    if k < 0 { (-(k as i64)) as u64 } else { 0 }
-}
-
-// at(v, k) at position j: "v at j+k, or the default where j+k is below 0 or not below N". `word` is the default's.
+// at(v, k) at the turn's position j: "v at j+k, or the default where j+k is below 0 or not below N". `word` is the default's.
 fn referred(
     store: &[u32],
-    types: &[u8; STREAMS_MOST],
-    kept: &[u16; STREAMS_MOST],
-    parts: &[u16; STREAMS_MOST],
-    known: u64,
-    j: u64,
+    frame: &[[u32; FRAME_ENTRIES]; FRAME_ROWS],
     v: usize,
     k: i8,
     word: u32,
 ) -> Value
-    requires { ⌜ Ahead j × ((v < mostStreams) × PartIn (now kept) (now parts) (length (now store)) v) ⌝ }
-    ensures { λ r. ⌜ r ≡ referredOf (now (types .entry)) (now (kept .entry)) (now (store .entry)) known j v k word ⌝ }
+    requires { ⌜ Referable (now frame) (length (now store)) v k ⌝ }
+    ensures { λ r. ⌜ r ≡ referredIn (now (frame .entry)) (now (store .entry)) v k word ⌝ }
 {
-    let up = j + up_of(k);
-    let down = down_of(k);
-    if down <= up {
-        let q = up - down;
-        if q < known {
-            return store::read(store, types, kept, parts, v, q);
+    let noted = wire::word_wide(frame[TURN][POSITION]) + wire::short_wide(expression::rising_of(k));
+    if RISE_OF_ZERO <= noted {
+        let q = noted - RISE_OF_ZERO;
+        if q < wire::word_wide(frame[TURN][KNOWN]) {
+            return store::read(store, frame, v, q as u32);
         }
     }
-    value::reading(types[v], word)
+    value::reading(frame[v][TYPE] as u8, word)
 }
 
 // An expression's value, and the place behind the expression.
@@ -69,179 +59,122 @@ fn valued(value: Value, next: usize) -> Evaluated
     }
 }
 
-// The place behind the body of a node of the kind `kind`, whose body starts at `start`.
-fn behind(kind: u8, start: usize) -> usize
-    requires { ⌜ start + ruleOf kind .body < 2 ^ 64 ⌝ }
-    ensures { λ r. ⌜ r ≡ start + ruleOf kind .body ⌝ }
-{
-    start + byte_size(node::rule_of(kind).body)
-}
-
-// The expression at `at`, with `levels` levels left. The node is an enum, and "the checker's and evaluator's decision goes over it". Each arm
-// looks up the rule for itself, since the compiler knows the kind there.
-fn eval(
+// The constant or reference at `at`. The node is an enum, and "the checker's and evaluator's decision goes over it".
+fn leaf(
     bytes: &[u8],
     store: &[u32],
-    types: &[u8; STREAMS_MOST],
-    kept: &[u16; STREAMS_MOST],
-    parts: &[u16; STREAMS_MOST],
-    known: u64,
-    j: u64,
+    frame: &[[u32; FRAME_ENTRIES]; FRAME_ROWS],
     at: usize,
-    levels: u8,
 ) -> Evaluated
-    requires { ⌜ Ahead j × Readable levels (now types) (now kept) (now parts) (length (now store)) (now bytes) at ⌝ }
-    ensures { λ r. ⌜ Evaluates levels (now (types .entry)) (now (kept .entry)) (now (parts .entry)) (now (store .entry))
-        (now (bytes .entry)) known j at r ⌝ }
+    requires { ⌜ LeafStands (now frame) (length (now store)) (now bytes) at ⌝ }
+    ensures { λ r. ⌜ EvaluatesLeaf (now (frame .entry)) (now (store .entry)) (now (bytes .entry)) at r ⌝ }
 {
     let kind = bytes[at];
     let start = at + 1;
-    match node::node_of(bytes, kind, start) {
-        Node::Constant(t, w) => valued(value::reading(t, w), behind(kind, start)),
-        Node::Now(v) => {
-            let value = store::read(store, types, kept, parts, byte_size(v), j);
-            valued(value, behind(kind, start))
-        }
-        Node::At(v, k, w) => {
-            let value = referred(store, types, kept, parts, known, j, byte_size(v), k, w);
-            valued(value, behind(kind, start))
-        }
-        Node::Operator(op) => {
-            let operands = node::rule_of(op).operands;
-            let next = behind(op, start);
-            let left = levels - 1;
-            let one = eval(bytes, store, types, kept, parts, known, j, next, left);
-            let a = one.value;
-            if operands == 1 {
-                return valued(value::apply(op, a, a), one.next);
-            }
-            let two = eval(bytes, store, types, kept, parts, known, j, one.next, left);
-            let b = two.value;
-            if operands == 2 {
-                return valued(value::apply(op, a, b), two.next);
-            }
-            let three = eval(bytes, store, types, kept, parts, known, j, two.next, left);
-            let c = three.value;
-            valued(value::choose(a, b, c), three.next)
-        }
+    let node = node::node_of(bytes, kind, start);
+    let next = start + byte_size(node::leaf_body(node));
+    match node {
+        Node::Constant(t, w) => valued(value::reading(t, w), next),
+        Node::Now(v) => valued(
+            store::read(store, frame, byte_size(v), frame[TURN][POSITION]),
+            next,
+        ),
+        Node::At(v, k, w) => valued(referred(store, frame, byte_size(v), k, w), next),
+        // Never: a leaf stands there.
+        Node::Operator(_) => valued(Value::Flag(false), next),
     }
 }
 
-// The value of the stream y at `position`, from the row or from its equation.
-fn fresh(
+// The operator at `at` and its operands, with `levels` levels left. An operand without operands of its own does not enter the recursion.
+fn eval(
     bytes: &[u8],
+    kinds: &[[u8; ENTRIES]; KINDS_MOST],
     store: &[u32],
-    row: &[u32],
-    types: &[u8; STREAMS_MOST],
-    kept: &[u16; STREAMS_MOST],
-    parts: &[u16; STREAMS_MOST],
-    starts: &[u16; STREAMS_MOST],
-    inputs: usize,
-    known: u64,
-    position: u64,
-    y: usize,
-) -> Value
-    requires { ⌜ CanFresh (now bytes) (now types) (now kept) (now parts) (now starts) inputs (length (now store)) (length (now row)) position y ⌝ }
-    ensures { λ r. ⌜ Fresh (now (bytes .entry)) (now (types .entry)) (now (kept .entry)) (now (parts .entry)) (now (starts .entry)) inputs
-        (now (row .entry)) (now (store .entry)) known position y r ⌝ }
+    frame: &[[u32; FRAME_ENTRIES]; FRAME_ROWS],
+    at: usize,
+    levels: u8,
+) -> Evaluated
+    requires { ⌜ Tabulated (now kinds) × OperatorStands levels (now frame) (length (now store)) (now bytes) at ⌝ }
+    ensures { λ r. ⌜ Evaluates levels (now (frame .entry)) (now (store .entry)) (now (bytes .entry)) at r ⌝ }
 {
-    if y < inputs {
-        value::reading(types[y], row[y])
+    let op = bytes[at];
+    let operands = node::operands_of(kinds, byte_size(op));
+    let left = levels - 1;
+    let one = if node::is_leaf(bytes, at + 1) {
+        leaf(bytes, store, frame, at + 1)
     } else {
-        let place = wire::short_wide(starts[y]) as usize;
-        let e = eval(
-            bytes,
-            store,
-            types,
-            kept,
-            parts,
-            known,
-            position,
-            place,
-            limits::LEVELS_MOST,
-        );
-        e.value
+        eval(bytes, kinds, store, frame, at + 1, left)
+    };
+    let a = one.value;
+    let mut b = a;
+    let mut next = one.next;
+    if operands != 1 {
+        let two = if node::is_leaf(bytes, next) {
+            leaf(bytes, store, frame, next)
+        } else {
+            eval(bytes, kinds, store, frame, next, left)
+        };
+        b = two.value;
+        next = two.next;
+        if operands == 3 {
+            let three = if node::is_leaf(bytes, next) {
+                leaf(bytes, store, frame, next)
+            } else {
+                eval(bytes, kinds, store, frame, next, left)
+            };
+            let c = three.value;
+            return valued(value::choose(a, b, c), three.next);
+        }
     }
+    valued(value::apply(op, a, b), next)
 }
 
-// The stream y's step of turn t: "writes exactly the values, inputs included, whose position is that turn less their look-ahead and lies in
-// the trace".
-fn step(
-    bytes: &[u8],
-    store: &mut [u32],
-    row: &[u32],
-    types: &[u8; STREAMS_MOST],
-    look: &[u16; STREAMS_MOST],
-    kept: &[u16; STREAMS_MOST],
-    parts: &[u16; STREAMS_MOST],
-    starts: &[u16; STREAMS_MOST],
-    inputs: usize,
-    known: u64,
-    t: u64,
-    y: usize,
-)
-    requires { ⌜ CanStep (now bytes) (now types) (now look) (now kept) (now parts) (now starts)
-        inputs (length (now store)) (length (now row)) known t y ⌝ }
-    ensures { λ _. ⌜ Stepped (now (bytes .entry)) (now (types .entry)) (now (look .entry)) (now (kept .entry)) (now (parts .entry))
-        (now (starts .entry)) inputs (now (row .entry)) (now (store .entry)) known t y (now (store .exit)) ⌝ }
-{
-    let ahead = wire::short_wide(look[y]);
-    if ahead <= t && t < known + ahead {
-        let position = t - ahead;
-        let v = fresh(
-            bytes,
-            store,
-            row,
-            types,
-            kept,
-            parts,
-            starts,
-            inputs,
-            known,
-            position,
-            y,
-        );
-        store::write(store, types, kept, parts, y, position, v);
-    }
-}
-
-// Turn t, done in place: `order` has each stream behind those whose values of this very turn it reads.
+// Turn t, done in place: it "writes exactly the values, inputs included, whose position is that turn less their look-ahead and lies in the
+// trace". `order` has each stream behind those whose values of this very turn it reads. `eval` and `leaf` are called from here: a helper
+// between would take the slices to pieces and put them together again.
 pub fn turn(
     bytes: &[u8],
+    kinds: &[[u8; ENTRIES]; KINDS_MOST],
     store: &mut [u32],
     row: &[u32],
     types: &[u8; STREAMS_MOST],
     look: &[u16; STREAMS_MOST],
     kept: &[u16; STREAMS_MOST],
-    parts: &[u16; STREAMS_MOST],
     starts: &[u16; STREAMS_MOST],
     order: &[u8; STREAMS_MOST],
+    frame: &mut [[u32; FRAME_ENTRIES]; FRAME_ROWS],
     inputs: usize,
     streams: usize,
     known: u64,
     t: u64,
 )
-    requires { ⌜ CanTurn (now bytes) (now types) (now look) (now kept) (now parts) (now starts) (now order)
+    requires { ⌜ CanTurn (now bytes) (now kinds) (now types) (now look) (now kept) (now starts) (now order) (now frame)
         inputs streams (length (now store)) (length (now row)) known t ⌝ }
-    ensures { λ _. ⌜ Turns (now (bytes .entry)) (now (types .entry)) (now (look .entry)) (now (kept .entry)) (now (parts .entry))
-        (now (starts .entry)) (now (order .entry)) inputs streams (now (row .entry)) (now (store .entry)) known t (now (store .exit)) ⌝ }
+    ensures { λ _. ⌜ Turns (now (bytes .entry)) (now (types .entry)) (now (look .entry)) (now (kept .entry)) (now (starts .entry))
+        (now (order .entry)) inputs streams (now (row .entry)) (now (store .entry)) known t (now (store .exit))
+        × Framed (now (types .entry)) (now (look .entry)) (now (kept .entry)) streams known t (now (frame .exit)) ⌝ }
 {
-    let mut i: usize = 0;
+    store::lay(types, look, kept, streams, known, t, frame);
+    let mut i = 0;
     while i < streams {
-        step(
-            bytes,
-            store,
-            row,
-            types,
-            look,
-            kept,
-            parts,
-            starts,
-            inputs,
-            known,
-            t,
-            byte_size(order[i]),
-        );
+        let y = byte_size(order[i]);
+        let ahead = wire::short_wide(look[y]);
+        if ahead <= t && t < known + ahead {
+            let position = (t - ahead) as u32;
+            if y < inputs {
+                store::write(store, frame, y, position, value::reading(types[y], row[y]));
+            } else {
+                frame[TURN][POSITION] = position;
+                let at = wire::short_size(starts[y]);
+                let e = if node::is_leaf(bytes, at) {
+                    leaf(bytes, store, frame, at)
+                } else {
+                    eval(bytes, kinds, store, frame, at, limits::LEVELS_MOST)
+                };
+                let value = e.value;
+                store::write(store, frame, y, position, value);
+            }
+        }
         i += 1;
     }
 }

@@ -1,6 +1,6 @@
 -- What holds of the head at a place: a fault's number is a node's; a node has no fault, ends in the table and behind its start, and refers
 -- to a stream of the table by an offset in range. Assumes nothing.
-use mathlib.Core.Path.{_≡_, refl, subst}
+use mathlib.Core.Path.{_≡_, refl}
 use mathlib.Core.Bool.{cond}
 use mathlib.Core.List.{List}
 use mathlib.Core.Logic.{_⊎_, inl, inr}
@@ -9,25 +9,22 @@ use native.Mathlib.Omega.{arith}
 use borrow.Author.Tests.{eqb-true, eqb-false, leb-true, ltb-true, ltb-false}
 use lib.Dec.{eqb, leb, ltb}
 use lib.IntN.{ℤ, pos, negsuc}
-use lib.ListN.{length, getD, take, length-take}
-use Rattle.limits.specs.Limits.{mostStreams}
+use lib.ListN.{length, getD}
 use Rattle.limits.specs.Refusals.{missing, wrongField, wrongType, tooDeep}
 use Rattle.basis.proofs.Tests.{pick-case}
 use Rattle.node.specs.declared.Node.{Node}
 use Rattle.node.specs.declared.Node.the-variants.{Constant, Now, At, Operator}
-use Rattle.node.specs.declared.NodeRead.{NodeRead}
-use Rattle.node.specs.declared.NodeRead.the-variants.{Fault, Got}
+use Rattle.node.specs.Node.{NodeRead, Fault, Got, signedOf, nodeOf, nodeBy, nodeAt, typeFault, wordFault, zeroFault, first, faultOf, faultAt, headOf, headBy, headAt}
 use Rattle.node.specs.Head.{Head}
 use Rattle.node.specs.Head as head
 use Rattle.node.specs.Kinds.{ruleOf}
-use Rattle.node.specs.Node.{signedOf, nodeOf, nodeBy, nodeAt, typeFault, wordFault, zeroFault, first, faultOf, faultAt, headOf, headBy, headAt}
 use Rattle.node.proofs.Heads.{faultless}
 use Rattle.expression.specs.References.{NodeRefers, Ranged}
 
 -- ---- the faults of a node
 
 -- no fault, "a field out of its rule" or "node not of the wanted type"
-abbrev FieldOrType : ℕ → Type 0
+abbrev pub FieldOrType : ℕ → Type 0
 FieldOrType n = (n ≡ 0) ⊎ ((wrongField ≤ n) × (n ≤ wrongType))
 
 type-fault : (t w : ℕ) → FieldOrType (typeFault t w)
@@ -49,7 +46,7 @@ first-fault : (a b : ℕ) → FieldOrType a → FieldOrType b → FieldOrType (f
 unfolding first
 first-fault a b f g = pick-case FieldOrType (eqb a 0) b a (λ _. g) (λ _. f)
 
-fault-number : (ts : List ℕ) (w : ℕ) (n : Node) → FieldOrType (faultOf ts w n)
+pub fault-number : (ts : List ℕ) (w : ℕ) (n : Node) → FieldOrType (faultOf ts w n)
 unfolding faultOf
 fault-number ts w (Constant t x) = first-fault _ _ (word-fault t x) (type-fault t w)
 fault-number ts w (Now v) = pick-case FieldOrType (ltb v (length ts)) _ wrongField (λ _. type-fault _ w) (λ _. inr (omega arith))
@@ -151,15 +148,3 @@ head-by l ts s w at (Got n m) h =
 pub head-sound : (l : ℕ) (ts s : List ℕ) (w at : ℕ) → HeadSound ts s w at (headAt l ts s w at)
 unfolding headAt
 head-sound l ts s w at = head-by l ts s w at (nodeAt s at) (node-sound s at)
-
-more-streams : {S T : ℕ} (n : Node) → S ≤ T → NodeRefers S n → NodeRefers T n
-more-streams (Constant t x) h r = tt
-more-streams (Now v) h r = omega arith
-more-streams (At v k d) h r = (omega arith, r .1, r .2)
-more-streams (Operator k) h r = tt
-
--- a leaf refers to one of 32 streams
-pub leaf-refers : (l streams : ℕ) (types s : List ℕ) (w at : ℕ) {n : Node} {next : ℕ} → streams ≤ mostStreams → headAt l (take streams types) s w at ≡ head.Leaf n next → NodeRefers mostStreams n
-leaf-refers l streams types s w at {n} h e =
-    let f = subst (HeadSound (take streams types) s w at) e (head-sound l (take streams types) s w at) in
-    more-streams n (omega (arith, length-take streams types)) (f .refers)

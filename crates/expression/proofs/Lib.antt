@@ -3,6 +3,10 @@ pub mod Heads
 pub mod Operands
 pub mod References
 pub mod Sound
-pub mod Notes
-pub mod Extremes
 pub mod Scan
+pub mod Leaves
+pub mod Operators
+pub mod Notes
+pub mod Noting
+pub mod Seeing
+pub mod Extremes

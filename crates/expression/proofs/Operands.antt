@@ -6,13 +6,10 @@ use Prim.Native.Nat.{ℕ, zero, suc, _≤_, _-_}
 use native.Mathlib.Omega.{arith}
 use native.Mathlib.Numerals.{sub-one}
 use borrow.Author.Tests.{eq-eqb, ne-eqb}
-use Rattle.node.specs.declared.Rule.{Rule}
+use Rattle.node.specs.Kinds.{Rule, ruleOf, meant}
 use Rattle.node.specs.declared.Node.{Node}
-use Rattle.node.specs.declared.NodeRead.{NodeRead}
-use Rattle.node.specs.declared.NodeRead.the-variants.{Fault, Got}
+use Rattle.node.specs.Node.{NodeRead, Fault, Got, nodeAt, faultAt, headBy, headAt}
 use Rattle.node.specs.Head as head
-use Rattle.node.specs.Kinds.{ruleOf, meant}
-use Rattle.node.specs.Node.{nodeAt, faultAt, headBy, headAt}
 use Rattle.expression.specs.Syntax.{Expr, leaf, unary, binary, ternary}
 use Rattle.expression.specs.Grammar.{good, bad, operands, step, parse}
 

@@ -1,113 +1,171 @@
--- What a scan says and notes of an operator, one operand after the other, and of a leaf.
+-- What a scan says and notes of a node without operands, and of an operator, one operand after the other.
 -- Assumes nothing.
 use mathlib.Core.Path.{_≡_, refl, sym, ap, _∙_}
+use mathlib.Core.Bool.{Bool, true, false}
 use mathlib.Core.List.{List}
-use Prim.Native.Nat.{ℕ, _-_}
+use mathlib.Core.Logic.{_⊎_, inl, inr, ⊎-elim}
+use Prim.Native.Nat.{ℕ, _+_, _-_, _*_, _≤_, _<_}
 use native.Mathlib.Omega.{arith}
+use borrow.Author.Tests.{ne-eqb, eqb-true, eqb-false}
+use lib.Dec.{eqb}
+use lib.ListN.{length}
+use Rattle.limits.specs.Limits.{mostTable}
 use Rattle.basis.specs.Notes.{rising, falling}
-use Rattle.node.specs.declared.Rule.{Rule}
+use Rattle.basis.specs.Rows.{column}
+use Rattle.basis.proofs.Tests.{true-false, lt-or-ge}
+use Rattle.node.specs.Kinds.{Rule, ruleOf, meant}
 use Rattle.node.specs.declared.Node.{Node}
+use Rattle.node.specs.declared.Node.the-variants.{Constant, Now, At, Operator}
+use Rattle.node.specs.Node.{Got, isLeaf, nodeAt, faultOf, faultAt, headOf, headBy, headAt}
 use Rattle.node.specs.Head as head
-use Rattle.node.specs.Kinds.{ruleOf, meant}
-use Rattle.node.specs.Node.{headAt}
-use Rattle.expression.specs.declared.Scanned.{Scanned}
-use Rattle.expression.specs.declared.Scanned.the-variants.{Ends, Refused}
 use Rattle.expression.specs.Syntax.{Expr}
-use Rattle.expression.specs.Grammar.{Parsed, good, bad, parse, scannedOf}
-use Rattle.expression.specs.References.{nodeNoted, noted, Scans}
+use Rattle.expression.specs.Grammar.{Parsed, good, bad, parse}
+use Rattle.expression.specs.References.{noted}
+use Rattle.expression.specs.Seen.{seenRise, seenFall, Seen}
+use Rattle.expression.specs.Scanning.{places, answered, scannedOf, LeafNoted, Scanning}
+use Rattle.expression.proofs.Heads.{FieldOrType, fault-number}
 use Rattle.expression.proofs.Operands.{parse-refused, parse-leaf, first-bad, one-operand, second-bad, two-operands, third-bad, three-operands}
 
 good-not-bad : {X : Type 0} {e : Expr} {n why place : ℕ} → bad why place ≡ good e n → X
 good-not-bad q = let z : _≡_ {A = ℕ} 0 1 = cc in absurd (omega arith)
 
-module _ {p : Parsed} {rise fall rise′ fall′ : List ℕ} where
-  scans-bad : {why place : ℕ} → p ≡ bad why place → Scans p rise fall rise′ fall′ (Refused why place)
+module _ {p : Parsed} {s ts : List ℕ} {seen seen′ : List (List ℕ)} where
+  pub scans-bad : {why place : ℕ} → p ≡ bad why place → 1 ≤ why → why < 16 → place ≤ length s → Seen ts seen′ → Scanning p s ts seen seen′ (why * places + place)
   unfolding scannedOf
-  scans-bad h = record { answer = rw h; rises = λ e n q. good-not-bad (sym h ∙ q); falls = λ e n q. good-not-bad (sym h ∙ q) }
+  scans-bad h a b c l = record { answer = rw h; placed = rw h (a, b, c); rises = λ e n q. good-not-bad (sym h ∙ q); falls = λ e n q. good-not-bad (sym h ∙ q); left = l }
 
-  scans-good : {a : Expr} {n : ℕ} → p ≡ good a n → rise′ ≡ noted rising a rise → fall′ ≡ noted falling a fall → Scans p rise fall rise′ fall′ (Ends n)
+  scans-good : {a : Expr} {n : ℕ} → p ≡ good a n → n ≤ length s → column seenRise seen′ ≡ noted rising a (column seenRise seen) → column seenFall seen′ ≡ noted falling a (column seenFall seen) → Seen ts seen′ → Scanning p s ts seen seen′ n
   unfolding scannedOf
-  scans-good {a} h r f = record { answer = rw h; rises = λ e n q. r ∙ ap (λ (x : Expr). noted rising x rise) (same q); falls = λ e n q. f ∙ ap (λ (x : Expr). noted falling x fall) (same q) }
+  scans-good {a} h c r f l = record { answer = rw h; placed = rw h c; rises = λ e n q. r ∙ ap (λ (x : Expr). noted rising x (column seenRise seen)) (same q); falls = λ e n q. f ∙ ap (λ (x : Expr). noted falling x (column seenFall seen)) (same q); left = l }
     where
       same : {e : Expr} {n : ℕ} → p ≡ good e n → a ≡ e
       same q = cc
 
--- a scan that ends at n has read an expression and noted its references
-pub record Ended (p : Parsed) (rise fall rise′ fall′ : List ℕ) (n : ℕ) : Type 0 where
+-- a scan that answers a place has read an expression and noted its references
+pub record Ended (p : Parsed) (s ts : List ℕ) (seen seen′ : List (List ℕ)) (n : ℕ) : Type 0 where
   pub expr : Expr
   pub parsed : p ≡ good expr n
-  pub rises : rise′ ≡ noted rising expr rise
-  pub falls : fall′ ≡ noted falling expr fall
+  pub behind : n ≤ length s
+  pub rises : column seenRise seen′ ≡ noted rising expr (column seenRise seen)
+  pub falls : column seenFall seen′ ≡ noted falling expr (column seenFall seen)
 
-good-of : (p : Parsed) {r : Scanned} {n : ℕ} → r ≡ scannedOf p → r ≡ Ends n → (e : Expr) × (p ≡ good e n)
-unfolding scannedOf
-good-of (good e n) h q = (e, cc)
-good-of (bad why place) h q = let z : _≡_ {A = ℕ} 0 1 = cc in absurd (omega arith)
+-- one that answers a fault has found none
+pub record Refused (p : Parsed) (s : List ℕ) (r : ℕ) : Type 0 where
+  pub why : ℕ
+  pub place : ℕ
+  pub parsed : p ≡ bad why place
+  pub is : r ≡ why * places + place
+  pub some : 1 ≤ why
+  pub few : why < 16
+  pub within : place ≤ length s
 
-bad-of : (p : Parsed) {r : Scanned} {why place : ℕ} → r ≡ scannedOf p → r ≡ Refused why place → p ≡ bad why place
-unfolding scannedOf
-bad-of (good e n) h q = let z : _≡_ {A = ℕ} 0 1 = cc in absurd (omega arith)
-bad-of (bad why place) h q = cc
+module _ {s ts : List ℕ} {seen seen′ : List (List ℕ)} {r : ℕ} (short : length s ≤ mostTable) where
+  ended : (p : Parsed) → Scanning p s ts seen seen′ r → r < places → Ended p s ts seen seen′ r
+  unfolding scannedOf
+  ended (good e n) x h =
+      let q : r ≡ n = x .answer in
+      record { expr = e; parsed = ap (good e) (sym q); behind = rw q (x .placed); rises = x .rises e n refl; falls = x .falls e n refl }
+  ended (bad why place) x h = absurd (omega (arith, x .answer, x .placed .0))
 
-module _ {p : Parsed} {rise fall rise′ fall′ : List ℕ} {r : Scanned} (x : Scans p rise fall rise′ fall′ r) where
-  pub scan-ended : {n : ℕ} → r ≡ Ends n → Ended p rise fall rise′ fall′ n
-  scan-ended {n} q =
-      let g = good-of p (x .answer) q in
-      record { expr = g .0; parsed = g .1; rises = x .rises (g .0) n (g .1); falls = x .falls (g .0) n (g .1) }
+  pub scan-ended : {p : Parsed} → Scanning p s ts seen seen′ r → r < places → Ended p s ts seen seen′ r
+  scan-ended {p} x h = ended p x h
 
-  pub scan-refused : {why place : ℕ} → r ≡ Refused why place → p ≡ bad why place
-  scan-refused q = bad-of p (x .answer) q
+  refused : (p : Parsed) → Scanning p s ts seen seen′ r → places ≤ r → Refused p s r
+  unfolding scannedOf
+  refused (good e n) x h = absurd (omega (arith, x .answer, x .placed))
+  refused (bad why place) x h = record { why = why; place = place; parsed = refl; is = x .answer; some = x .placed .0; few = x .placed .1; within = x .placed .2 }
 
-module _ (l : ℕ) (ts s : List ℕ) (w at : ℕ) {rise fall : List ℕ} where
-  pub refused-here : {why : ℕ} {rise′ fall′ : List ℕ} → headAt l ts s w at ≡ head.Refused why → Scans (parse l ts s w at) rise fall rise′ fall′ (Refused why at)
-  refused-here e = scans-bad (parse-refused l ts s w at e)
+  pub scan-refused : {p : Parsed} → Scanning p s ts seen seen′ r → places ≤ r → Refused p s r
+  scan-refused {p} x h = refused p x h
 
-  pub is-leaf : {n : Node} {next : ℕ} {rise′ fall′ : List ℕ} → headAt l ts s w at ≡ head.Leaf n next → rise′ ≡ nodeNoted rising n rise → fall′ ≡ nodeNoted falling n fall → Scans (parse l ts s w at) rise fall rise′ fall′ (Ends next)
-  unfolding noted
-  is-leaf e r f = scans-good (parse-leaf l ts s w at e) r f
+-- a refusal as an answer
+refusal : {p q : Parsed} {s ts : List ℕ} {seen seen′ : List (List ℕ)} {r : ℕ} → Refused q s r → ((why place : ℕ) → q ≡ bad why place → p ≡ bad why place) → Seen ts seen′ → Scanning p s ts seen seen′ r
+refusal x f l = rw (x .is) (scans-bad (f (x .why) (x .place) (x .parsed)) (x .some) (x .few) (x .within) l)
 
-  -- an operator of the kind k, whose rule is r, and the types f and q of its operands
-  module _ {k next : ℕ} {r : Rule} {f q : ℕ} (e : headAt l ts s w at ≡ head.Operator k next) (er : r ≡ ruleOf k) (ef : f ≡ meant (r .first) w) (eq : q ≡ meant (r .rest) w) {rise₁ fall₁ : List ℕ} {x : Scanned} (s1 : Scans (parse (l - 1) ts s f next) rise fall rise₁ fall₁ x) where
-    pub first-refused : {why place : ℕ} → x ≡ Refused why place → Scans (parse l ts s w at) rise fall rise₁ fall₁ (Refused why place)
-    first-refused e1 = scans-bad (first-bad l ts s w at e er ef eq (scan-refused s1 e1))
+module _ (l : ℕ) (ts s : List ℕ) (w at : ℕ) {seen seen′ : List (List ℕ)} (lv : Seen ts seen′) (pl : at ≤ length s) where
+  -- a fault at the place itself
+  pub refused-here : {why : ℕ} → headAt l ts s w at ≡ head.Refused why → 1 ≤ why → why < 16 → Scanning (parse l ts s w at) s ts seen seen′ (why * places + at)
+  refused-here e a b = scans-bad (parse-refused l ts s w at e) a b pl lv
 
-    module _ {n : ℕ} (e1 : x ≡ Ends n) where
-      a : Ended (parse (l - 1) ts s f next) rise fall rise₁ fall₁ n
-      a = scan-ended s1 e1
+-- ---- a node without operands
 
-      pub one-scanned : r .operands ≡ 1 → Scans (parse l ts s w at) rise fall rise₁ fall₁ (Ends n)
-      unfolding noted
-      one-scanned o = scans-good (one-operand l ts s w at e er ef eq (a .parsed) o) (a .rises) (a .falls)
+leaf-head : (n : Node) (next : ℕ) → isLeaf n ≡ true → headOf n next ≡ head.Leaf n next
+unfolding headOf isLeaf
+leaf-head (Constant t x) next h = refl
+leaf-head (Now v) next h = refl
+leaf-head (At v k d) next h = refl
+leaf-head (Operator k) next h = true-false h refl
 
-      module _ (o1 : r .operands ≡ 1 → ⊥) {rise₂ fall₂ : List ℕ} {y : Scanned} (s2 : Scans (parse (l - 1) ts s q n) rise₁ fall₁ rise₂ fall₂ y) where
-        pub second-refused : {why place : ℕ} → y ≡ Refused why place → Scans (parse l ts s w at) rise fall rise₂ fall₂ (Refused why place)
-        second-refused e2 = scans-bad (second-bad l ts s w at e er ef eq (a .parsed) o1 (scan-refused s2 e2))
+module _ (l : ℕ) (ts s : List ℕ) (w at : ℕ) {seen seen′ : List (List ℕ)} {node : Node} {next r : ℕ} (e : nodeAt s at ≡ Got node next) (is : isLeaf node ≡ true) (pl : at ≤ length s) (pn : next ≤ length s) (x : LeafNoted node w at next ts seen seen′ r) where
+  pub leaf-scans : Scanning (parse (l + 1) ts s w at) s ts seen seen′ r
+  unfolding answered headAt headBy faultAt noted
+  leaf-scans = go (eqb (faultOf ts w node) 0) refl
+    where
+      lev : eqb (l + 1) 0 ≡ false
+      lev = ne-eqb (l + 1) 0 (λ z. omega arith)
 
-        module _ {m : ℕ} (e2 : y ≡ Ends m) where
-          b : Ended (parse (l - 1) ts s q n) rise₁ fall₁ rise₂ fall₂ m
-          b = scan-ended s2 e2
+      number : FieldOrType (faultOf ts w node) → (faultOf ts w node ≡ 0 → ⊥) → (1 ≤ faultOf ts w node) × (faultOf ts w node < 16)
+      number (inl z) n = absurd (n z)
+      number (inr h) n = (omega (arith, h .0), omega (arith, h .1))
 
-          rises₂ : rise₂ ≡ noted rising (b .expr) (noted rising (a .expr) rise)
-          rises₂ = b .rises ∙ ap (noted rising (b .expr)) (a .rises)
+      go : (b : Bool) → eqb (faultOf ts w node) 0 ≡ b → Scanning (parse (l + 1) ts s w at) s ts seen seen′ r
+      go true z =
+          let a : r ≡ next = x .answer ∙ rw z in
+          let h : headAt (l + 1) ts s w at ≡ head.Leaf node next = rw (e, lev, z) (leaf-head node next is) in
+          rw a (scans-good (parse-leaf (l + 1) ts s w at h) pn (x .rises (eqb-true _ _ z)) (x .falls (eqb-true _ _ z)) (x .left))
+      go false z =
+          let a : r ≡ faultOf ts w node * places + at = x .answer ∙ rw z in
+          let h : headAt (l + 1) ts s w at ≡ head.Refused (faultOf ts w node) = rw (e, lev, z) in
+          let n = number (fault-number ts w node) (eqb-false _ _ z) in
+          rw a (refused-here (l + 1) ts s w at (x .left) pl h (n .0) (n .1))
 
-          falls₂ : fall₂ ≡ noted falling (b .expr) (noted falling (a .expr) fall)
-          falls₂ = b .falls ∙ ap (noted falling (b .expr)) (a .falls)
+-- ---- an operator of the kind k, whose rule is r, and the types f and q of its operands
 
-          pub two-scanned : r .operands ≡ 2 → Scans (parse l ts s w at) rise fall rise₂ fall₂ (Ends m)
-          unfolding noted
-          two-scanned o = scans-good (two-operands l ts s w at e er ef eq (a .parsed) o1 (b .parsed) o) rises₂ falls₂
+module _ (l : ℕ) (ts s : List ℕ) (w at : ℕ) {seen : List (List ℕ)} {k next : ℕ} {r : Rule} {f q : ℕ} (short : length s ≤ mostTable) (e : headAt l ts s w at ≡ head.Operator k next) (er : r ≡ ruleOf k) (ef : f ≡ meant (r .first) w) (eq : q ≡ meant (r .rest) w) {seen₁ : List (List ℕ)} {x : ℕ} (s1 : Scanning (parse (l - 1) ts s f next) s ts seen seen₁ x) where
+  pub first-refused : places ≤ x → Scanning (parse l ts s w at) s ts seen seen₁ x
+  first-refused h = refusal (scan-refused short s1 h) (λ why place p. first-bad l ts s w at e er ef eq p) (s1 .left)
 
-          -- the scan of the third operand answers for the whole
-          module _ (o2 : r .operands ≡ 2 → ⊥) {rise₃ fall₃ : List ℕ} {z : Scanned} (s3 : Scans (parse (l - 1) ts s q m) rise₂ fall₂ rise₃ fall₃ z) where
-            third : (p : Parsed) → parse (l - 1) ts s q m ≡ p → z ≡ scannedOf p → Scans (parse l ts s w at) rise fall rise₃ fall₃ z
-            unfolding scannedOf noted
-            third (good c h) p3 e3 =
-                rw e3
-                (scans-good
-                (three-operands l ts s w at e er ef eq (a .parsed) o1 (b .parsed) o2 p3)
-                (s3 .rises c h p3 ∙ ap (noted rising c) rises₂)
-                (s3 .falls c h p3 ∙ ap (noted falling c) falls₂))
-            third (bad why place) p3 e3 = rw e3 (scans-bad (third-bad l ts s w at e er ef eq (a .parsed) o1 (b .parsed) o2 p3))
+  module _ (h : x < places) where
+    a : Ended (parse (l - 1) ts s f next) s ts seen seen₁ x
+    a = scan-ended short s1 h
 
-            pub three-scanned : Scans (parse l ts s w at) rise fall rise₃ fall₃ z
-            three-scanned = third (parse (l - 1) ts s q m) refl (s3 .answer)
+    one-ended : r .operands ≡ 1 → Scanning (parse l ts s w at) s ts seen seen₁ x
+    unfolding noted
+    one-ended o = scans-good (one-operand l ts s w at e er ef eq (a .parsed) o) (a .behind) (a .rises) (a .falls) (s1 .left)
+
+    module _ (o1 : r .operands ≡ 1 → ⊥) {seen₂ : List (List ℕ)} {y : ℕ} (s2 : Scanning (parse (l - 1) ts s q x) s ts seen₁ seen₂ y) where
+      pub second-refused : places ≤ y → Scanning (parse l ts s w at) s ts seen seen₂ y
+      second-refused g = refusal (scan-refused short s2 g) (λ why place p. second-bad l ts s w at e er ef eq (a .parsed) o1 p) (s2 .left)
+
+      module _ (g : y < places) where
+        b : Ended (parse (l - 1) ts s q x) s ts seen₁ seen₂ y
+        b = scan-ended short s2 g
+
+        rises₂ : column seenRise seen₂ ≡ noted rising (b .expr) (noted rising (a .expr) (column seenRise seen))
+        rises₂ = b .rises ∙ ap (noted rising (b .expr)) (a .rises)
+
+        falls₂ : column seenFall seen₂ ≡ noted falling (b .expr) (noted falling (a .expr) (column seenFall seen))
+        falls₂ = b .falls ∙ ap (noted falling (b .expr)) (a .falls)
+
+        two-ended : r .operands ≡ 2 → Scanning (parse l ts s w at) s ts seen seen₂ y
+        unfolding noted
+        two-ended o = scans-good (two-operands l ts s w at e er ef eq (a .parsed) o1 (b .parsed) o) (b .behind) rises₂ falls₂ (s2 .left)
+
+        -- the scan of the third operand answers for the whole
+        pub three-scanned : (r .operands ≡ 2 → ⊥) → {seen₃ : List (List ℕ)} {z : ℕ} → Scanning (parse (l - 1) ts s q y) s ts seen₂ seen₃ z → Scanning (parse l ts s w at) s ts seen seen₃ z
+        unfolding noted
+        three-scanned o2 {seen₃} {z} s3 = ⊎-elim fine wrong (lt-or-ge z places)
+          where
+            fine : z < places → Scanning (parse l ts s w at) s ts seen seen₃ z
+            fine i =
+                let c = scan-ended short s3 i in
+                scans-good (three-operands l ts s w at e er ef eq (a .parsed) o1 (b .parsed) o2 (c .parsed)) (c .behind) (c .rises ∙ ap (noted rising (c .expr)) rises₂) (c .falls ∙ ap (noted falling (c .expr)) falls₂) (s3 .left)
+
+            wrong : places ≤ z → Scanning (parse l ts s w at) s ts seen seen₃ z
+            wrong i = refusal (scan-refused short s3 i) (λ why place p. third-bad l ts s w at e er ef eq (a .parsed) o1 (b .parsed) o2 p) (s3 .left)
+
+      pub two-scanned : r .operands ≡ 2 → Scanning (parse l ts s w at) s ts seen seen₂ y
+      two-scanned o = ⊎-elim (λ g. two-ended g o) second-refused (lt-or-ge y places)
+
+  pub one-scanned : r .operands ≡ 1 → Scanning (parse l ts s w at) s ts seen seen₁ x
+  one-scanned o = ⊎-elim (λ h. one-ended h o) first-refused (lt-or-ge x places)

@@ -5,13 +5,10 @@ use mathlib.Core.List.{List}
 use lib.Dec.{eqb}
 use Rattle.limits.specs.Refusals.{tooDeep}
 use Rattle.basis.specs.Choices.{orElse}
-use Rattle.node.specs.declared.Rule.{Rule}
+use Rattle.node.specs.Kinds.{Rule, ruleOf, meant}
 use Rattle.node.specs.Head.{Head}
 use Rattle.node.specs.Head as head
-use Rattle.node.specs.Kinds.{ruleOf, meant}
 use Rattle.node.specs.Node.{headAt}
-use Rattle.expression.specs.declared.Scanned.{Scanned}
-use Rattle.expression.specs.declared.Scanned.the-variants.{Ends, Refused}
 use Rattle.expression.specs.Syntax.{Expr, leaf, unary, binary, ternary}
 
 -- an expression and the place behind it, or the number and the place of a fault
@@ -44,8 +41,3 @@ step p w at (head.Operator k next) = operands p w k (ruleOf k) next
 unfoldable pub parse : ℕ → List ℕ → List ℕ → ℕ → ℕ → Parsed
 parse zero ts s w at = step (λ v n. bad tooDeep n) w at (headAt zero ts s w at)
 parse (suc levels) ts s w at = step (λ v n. parse levels ts s v n) w at (headAt (suc levels) ts s w at)
-
--- what a scan answers of it
-unfoldable pub scannedOf : Parsed → Scanned
-scannedOf (good e n) = Ends n
-scannedOf (bad why place) = Refused why place

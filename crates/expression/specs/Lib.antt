@@ -1,3 +1,5 @@
+pub mod Seen
 pub mod Syntax
 pub mod Grammar
 pub mod References
+pub mod Scanning

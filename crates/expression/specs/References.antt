@@ -7,15 +7,12 @@ use mathlib.Core.Path.{_≡_}
 use lib.Dec.{ltb}
 use lib.IntN.{ℤ, pos}
 use lib.ListN.{getD, set}
-use Rattle.basis.specs.Notes.{rising, falling}
 use Rattle.limits.specs.Limits.{mostBack, mostAhead, riseOfZero, fallOfZero}
 use Rattle.basis.specs.Parts.{up, down}
 use Rattle.basis.specs.Edges.{Edge, Has}
 use Rattle.node.specs.declared.Node.{Node}
 use Rattle.node.specs.declared.Node.the-variants.{Constant, Now, At, Operator}
-use Rattle.expression.specs.declared.Scanned.{Scanned}
 use Rattle.expression.specs.Syntax.{Expr, leaf, unary, binary, ternary}
-use Rattle.expression.specs.Grammar.{Parsed, good, scannedOf}
 
 abbrev pub edge : ℕ → ℕ → ℤ → Edge
 edge y v k = record { from = y; to = v; weight = k }
@@ -66,23 +63,12 @@ nodeNoted m (Now v) a = raised v (m (pos 0)) a
 nodeNoted m (At v k d) a = raised v (m k) a
 nodeNoted m (Operator k) a = a
 
--- the note of a node in two arrays, one in rising and one in falling order
-abbrev pub NodeNotes : Node → List ℕ → List ℕ → List ℕ → List ℕ → Type 0
-NodeNotes node rise fall rise′ fall′ = (rise′ ≡ nodeNoted rising node rise) × (fall′ ≡ nodeNoted falling node fall)
-
 -- what is noted of an expression: for each reference to v of weight k the entry of v is raised to m k
 unfoldable pub noted : (ℤ → ℕ) → Expr → List ℕ → List ℕ
 noted m (leaf n) a = nodeNoted m n a
 noted m (unary k e) a = noted m e a
 noted m (binary k e f) a = noted m f (noted m e a)
 noted m (ternary k e f g) a = noted m g (noted m f (noted m e a))
-
--- a scan answers as the grammar does, and notes the references of the expression that it read in two arrays. Where there is no
--- expression nothing is said of the arrays.
-pub record Scans (p : Parsed) (rise fall rise′ fall′ : List ℕ) (r : Scanned) : Type 0 where
-  pub answer : r ≡ scannedOf p
-  pub rises : (e : Expr) (n : ℕ) → p ≡ good e n → rise′ ≡ noted rising e rise
-  pub falls : (e : Expr) (n : ℕ) → p ≡ good e n → fall′ ≡ noted falling e fall
 
 -- rise and fall are the notes of the edges from y to v in a list: both 0 where there is none, else the largest weight is rise - `riseOfZero`
 -- and the smallest `fallOfZero` - fall

@@ -10,10 +10,9 @@ use borrow.Author.Tests.{eqb-true, ne-eqb, not-true}
 use lib.Dec.{eqb}
 use Rattle.basis.proofs.Tests.{and-true}
 use Rattle.value.specs.Values.{opOf, typeOfOp}
-use Rattle.node.specs.Kinds.{ruleOf, rows, look, Row, noRule, meant}
+use Rattle.node.specs.Kinds.{ruleOf, rows, look, Row, noRule, meant, Rule}
 use Rattle.wire.specs.Bytes.{wordAt}
 use Rattle.node.specs.Node.{signedOf, nodeOf}
-use Rattle.node.specs.declared.Rule.{Rule}
 use Rattle.node.specs.declared.Node.{Node}
 use Rattle.node.specs.declared.Node.the-variants.{Constant, Now, At, Operator}
 

@@ -14,11 +14,10 @@ use Rattle.basis.proofs.Tests.{pick-case}
 use Rattle.value.specs.declared.Value.{Value}
 use Rattle.value.specs.Values.{opOf, typeOfOp}
 use Rattle.node.specs.Kinds.{ruleOf, meant}
-use Rattle.node.specs.Node.{nodeOf, nodeBy, nodeAt, faultOf, typeFault, wordFault, zeroFault, first, faultAt, headOf, headBy, headAt}
+use Rattle.node.specs.Node.{nodeOf, nodeBy, nodeAt, faultOf, typeFault, wordFault, zeroFault, first, faultAt, headOf, headBy, headAt, NodeRead}
 use Rattle.node.proofs.Heads.{faultless}
 use Rattle.node.specs.declared.Node.{Node}
 use Rattle.node.specs.declared.Node.the-variants.{Constant, Now, At, Operator}
-use Rattle.node.specs.declared.NodeRead.{NodeRead}
 use Rattle.node.specs.Head.{Head}
 use Rattle.node.specs.Head as head
 use Rattle.expression.specs.Syntax.{Expr, leaf, unary, binary, ternary}

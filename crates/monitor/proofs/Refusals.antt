@@ -15,7 +15,7 @@ use Rattle.table.specs.Table.{Decoded}
 use Rattle.announce.specs.declared.Checked.{Checked}
 use Rattle.announce.specs.Announced.{announced}
 use Rattle.prepare.specs.PlanFor.{tableIn, tableFor, firstBad}
-use Rattle.prepare.specs.Preparing.{Frame, Prepares, Preparing}
+use Rattle.prepare.specs.Preparing.{Brief, Prepares, Preparing}
 use Rattle.prepare.proofs.Held.{types-held}
 use Rattle.monitor.specs.declared.Phase.{Phase}
 use Rattle.monitor.specs.declared.Phase.the-variants.{Reading, Draining, Over}
@@ -67,10 +67,10 @@ module _ (s : List ℕ) where
         go false h = refl
         go true h = sym (ap f (not-of-table (eqb-true _ _ h)) ∙ e)
 
-pub not-prepared : {b : Bool} (s : List ℕ) (r : Run) (p : Frame) → b ≡ false → Preparing b s (r .look) (r .kept) p → announced s .number ≡ 0 → announced s .look ≡ r .look → announced s .kept ≡ r .kept → ⊥
+pub not-prepared : {b : Bool} (s : List ℕ) (r : Run) (p : Brief) → b ≡ false → Preparing b s (r .look) (r .kept) p → announced s .number ≡ 0 → announced s .look ≡ r .look → announced s .kept ≡ r .kept → ⊥
 not-prepared s r p e h = subst (λ (b : Bool). Preparing b s (r .look) (r .kept) p) e h
 
-pub is-prepared : {b : Bool} (s : List ℕ) (r : Run) (p : Frame) → b ≡ true → Preparing b s (r .look) (r .kept) p → Prepares s (r .look) (r .kept) p
+pub is-prepared : {b : Bool} (s : List ℕ) (r : Run) (p : Brief) → b ≡ true → Preparing b s (r .look) (r .kept) p → Prepares s (r .look) (r .kept) p
 is-prepared s r p e h = subst (λ (b : Bool). Preparing b s (r .look) (r .kept) p) e h
 
 first-bad-same : (ts us ws : List ℕ) → ((v : ℕ) → getD ts v 0 ≡ getD us v 0) → (k x : ℕ) → firstBad ts ws k x ≡ firstBad us ws k x
@@ -78,16 +78,16 @@ unfolding firstBad
 first-bad-same ts us ws h zero x = refl
 first-bad-same ts us ws h (suc k) x = λ i. cond (eqb (h x i) 0 && ltb 1 (getD ws x 0)) x (first-bad-same ts us ws h k (suc x) i)
 
--- ---- by a frame: the record's numbers are those announced
-abbrev agreesBy : Run → Frame → Bool
+-- ---- by a brief: the record's numbers are those announced
+abbrev agreesBy : Run → Brief → Bool
 agreesBy r p = recordAgrees (r .phase) (r .rows) (r .done) (p .closing)
 
-abbrev pub turnBy : Bool → Run → Frame → (lent : ℕ) (ws : List ℕ) (space : ℕ) → Fault
+abbrev pub turnBy : Bool → Run → Brief → (lent : ℕ) (ws : List ℕ) (space : ℕ) → Fault
 turnBy drains r p lent ws space =
     cond drains (drainRefusal (agreesBy r p) (r .phase) (p .words) (p .room) lent space)
     (rowRefusal (agreesBy r p) (r .phase) (r .rows) (p .words) (p .room) (p .inputs) (firstBad (p .types) ws (p .inputs) 0) lent (length ws) space)
 
-module _ {s : List ℕ} (r : Run) {p : Frame} (x : Prepares s (r .look) (r .kept) p) where
+module _ {s : List ℕ} (r : Run) {p : Brief} (x : Prepares s (r .look) (r .kept) p) where
   of-table : ofTable r (announced s) ≡ agreesBy r p
   unfolding ofTable
   of-table =
@@ -284,6 +284,14 @@ turns-left Reading rows done closing h q = true-false refl (sym q)
 turns-left Draining rows done closing h q =
     ltb-true _ _ (and-true (ltb 0 rows) (ltb done closing) (and-true (leb rows mostRows) (ltb 0 rows && ltb done closing) h .1) .1)
 turns-left Over rows done closing h q = true-false refl (sym q)
+
+-- and at least one row
+pub rows-some : (phase : Phase) (rows done closing : ℕ) → recordAgrees phase rows done closing ≡ true → isDraining phase ≡ true → 0 < rows
+unfolding isDraining recordAgrees phaseAgrees
+rows-some Reading rows done closing h q = true-false refl (sym q)
+rows-some Draining rows done closing h q =
+    ltb-true _ _ (and-true (ltb 0 rows) (ltb done closing) (and-true (leb rows mostRows) (ltb 0 rows && ltb done closing) h .1) .0)
+rows-some Over rows done closing h q = true-false refl (sym q)
 
 -- ---- what an accepted call knows of the record
 

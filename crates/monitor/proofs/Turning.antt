@@ -21,8 +21,8 @@ use Rattle.evaluate.specs.Turns.{Turns}
 use Rattle.records.specs.Encoding.{valueRecord, triggerRecord, recordOf, encode}
 use Rattle.output.specs.Encoding.{wordOn, outputOf, Emitted}
 use Rattle.prepare.specs.PlanFor.{tableIn, tableFor}
-use Rattle.prepare.specs.Preparing.{Frame, Prepares}
-use Rattle.prepare.proofs.Held.{roles-held, some-held, few-held, held-plan, plan-held, part-held, ready}
+use Rattle.prepare.specs.Preparing.{Brief, Prepares}
+use Rattle.prepare.proofs.Held.{roles-held, some-held, few-held, held-plan, plan-held, some-kept, ready}
 use Rattle.monitor.specs.Turns.{inWords, bytesOn, Turned}
 
 -- the values given, in words
@@ -45,7 +45,7 @@ encode-same rs us h (g ∷ gs) =
     λ i. (valueRecord (g .stream) (g .position) (g .word) ++ cond (eqb (h (g .stream) i) 1 && not (eqb (g .word) 0)) (triggerRecord (g .stream) (g .position)) [])
     ++ encode-same rs us h gs i
 
-module _ {s look kept : List ℕ} {p : Frame} (x : Prepares s look kept p) (n t : ℕ) (ws st : List ℕ) (h : p .words ≤ length st) where
+module _ {s look kept : List ℕ} {p : Brief} (x : Prepares s look kept p) (n t : ℕ) (ws st : List ℕ) (h : p .words ≤ length st) where
   abbrev q : run.Plan Value ℕ ℕ
   q = held-plan x
 
@@ -53,7 +53,7 @@ module _ {s look kept : List ℕ} {p : Frame} (x : Prepares s look kept p) (n t 
   word-after : (v : ℕ) → v < p .streams → due (of look) n t v ≡ true → wordOn look kept (storeAfter q n t ws st) t v ≡ imageOf (dueOf q n t ws st v)
   unfolding storeAfter
   word-after v l d =
-      word-due (p .types) kept (p .streams) (few-held x) (λ u m. part-held x (length st) h u m .some) (λ u. t - getD look u 0) (due (of look) n t) (dueOf q n t ws st) v st l d (ready x (length st) h .fits)
+      word-due (p .types) kept (p .streams) (few-held x) (some-kept x) (λ u. t - getD look u 0) (due (of look) n t) (dueOf q n t ws st) v st l d (ready x (length st) h .fits)
 
   roles-same : (v : ℕ) → getD (p .roles) v 0 ≡ getD (tableFor s .roles) v 0
   roles-same v = sym (ap (λ (d : Decoded). getD (tableIn d .roles) v 0) (x .decodes) ∙ roles-held x v)
@@ -69,7 +69,7 @@ module _ {s look kept : List ℕ} {p : Frame} (x : Prepares s look kept p) (n t 
       ∙ ap (λ (a : run.Plan Value ℕ ℕ). encode (tableFor s .roles) (map inWords (givenOn a n t ws st))) (sym (plan-held x))
 
   pub turned : {out st1 out1 : List ℕ} {count : ℕ}
-      → Turns s (p .types) look kept (p .parts) (p .starts) (p .order) (p .inputs) (p .streams) ws st n t st1
+      → Turns s (p .types) look kept (p .starts) (p .order) (p .inputs) (p .streams) ws st n t st1
       → Emitted (outputOf (p .roles) look kept st1 n t (p .streams - p .inputs) (p .inputs)) out out1 count
       → Turned s n t ws st out st1 out1 count
   turned {out} {st1} {out1} {count} a b =

@@ -103,7 +103,7 @@ drainFault s r lent space =
     let c = announced s in
     afterTable s (drainRefusal (ofTable r c) (r .phase) (c .words) (c .room) lent space)
 
--- the same by a frame's sums and types, where the record's numbers are those announced
+-- the same by a brief's sums and types, where the record's numbers are those announced
 abbrev pub agreesWith : Run → Prepared → Bool
 agreesWith r p = recordAgrees (r .phase) (r .rows) (r .done) (p .closing)
 

@@ -9,12 +9,13 @@ use Rattle.limits.specs.Refusals.{accepted}
 use Rattle.value.specs.declared.Value.{Value}
 use Rattle.value.specs.Values.{imageOf}
 use Rattle.basis.specs.Given.{Given}
+use Rattle.node.specs.Kinds.{Tabulated}
 use Rattle.run.specs.Run.{storeAfter, givenOn}
 use Rattle.records.specs.Encoding.{encode}
 use Rattle.output.specs.Encoding.{Emitted}
 use Rattle.announce.specs.Announced.{announced}
 use Rattle.prepare.specs.declared.Prepared.{Prepared}
-use Rattle.prepare.specs.Preparing.{Frame, frameBy, Prepares, Preparing}
+use Rattle.prepare.specs.Preparing.{Brief, briefBy, Prepares, Preparing}
 use Rattle.prepare.specs.PlanFor.{tableFor, planFor}
 use Rattle.monitor.specs.declared.Run.{Run}
 use Rattle.monitor.specs.declared.Fault.{Fault}
@@ -35,15 +36,23 @@ pub record Turned (s : List ℕ) (n t : ℕ) (ws st out st1 out1 : List ℕ) (co
   pub store-is : st1 ≡ storeAfter (planFor s) n t ws st
   pub output-is : Emitted (bytesOn s n t ws st) out out1 count
 
--- what the turn with this number needs, n rows being known: a frame by the record's numbers, as many words and bytes lent as announced,
--- numbers that the code's sums hold, and a word for each input where the turn has a row
-pub record TurnFits (s look kept : List ℕ) (p : Frame) (n t given lent space : ℕ) : Type 0 where
+-- what the turn with this number needs, n rows being known, of which there is one: the constant table, a brief by the record's numbers, as
+-- many words and bytes lent as announced, a number that the code's 32 bits hold, and a word for each input where the turn has a row
+pub record TurnFits (kinds : List (List ℕ)) (s look kept : List ℕ) (p : Brief) (n t given lent space : ℕ) : Type 0 where
+  pub tabulated : Tabulated kinds
   pub prepares : Prepares s look kept p
   pub store-long : p .words ≤ lent
   pub output-long : p .room ≤ space
-  pub turn-fits : t + 128 < 2 ^ 64
+  pub row-known : 0 < n
   pub rows-fit : n < 2 ^ 32
   pub row-long : t < n → p .inputs ≤ given
+
+-- what a turn by its brief needs: the constant table, the record's own numbers, and the brief by them
+pub record TurnReady (r : Run) (kinds : List (List ℕ)) (s look kept : List ℕ) (p : Brief) : Type 0 where
+  pub tabulated : Tabulated kinds
+  pub look-is : look ≡ r .look
+  pub kept-is : kept ≡ r .kept
+  pub prepares : Prepares s (r .look) (r .kept) p
 
 -- the rows known in a turn: those taken before it, and a row call's own ("turn j, for the j-th accepted row, counted from 0")
 abbrev pub knownRows : (drains : Bool) (rows : ℕ) → ℕ
@@ -64,11 +73,10 @@ pub record Took (drains : Bool) (s : List ℕ) (r : Run) (ws st out st1 out1 : L
   pub turned : x .fault .number ≡ accepted → Turned s (knownRows drains (r .rows)) (turnOf r) ws st out st1 out1 (x .count)
   pub closing-is : x .fault .number ≡ accepted → x .closing ≡ announced s .closing
 
--- sums of a frame by the record's numbers, whatever stands in the arrays that it was made in
+-- sums of a brief by the record's numbers, whatever stands in the arrays that it was made in
 pub record Summed (s look kept : List ℕ) (r : Prepared) : Type 0 where
   pub types : List ℕ
   pub roles : List ℕ
   pub starts : List ℕ
-  pub parts : List ℕ
   pub order : List ℕ
-  pub preparing : Preparing (r .ok) s look kept (frameBy r types roles starts parts order)
+  pub preparing : Preparing (r .ok) s look kept (briefBy r types roles starts order)

@@ -6,14 +6,18 @@ ghost use lib.ListN.{length};
 ghost use Rattle.limits.specs.Limits.{mostStreams};
 ghost use Rattle.limits.specs.Refusals.{foreignRecord};
 ghost use Rattle.prepare.specs.PlanFor.{firstBad};
-ghost use Rattle.prepare.specs.Preparing.{frameBy, Prepares};
+ghost use Rattle.prepare.specs.Preparing.{briefBy};
 ghost use Rattle.monitor.specs.Refusals.{fault, afterTable, recordAgrees, isReading, isDraining};
 ghost use Rattle.monitor.specs.Refusals.{closeRefusal, rowTests, drainTests, turnTests};
-ghost use Rattle.monitor.specs.Turns.{Turned, TurnFits, knownRows, tookWith, Took, Summed};
+ghost use Rattle.monitor.specs.Turns.{Turned, TurnFits, TurnReady, knownRows, tookWith, Took, Summed};
 ghost use Rattle.monitor.specs.Calls.{runWith, acceptedWith, refusedWith, zeroRun, closedPhase, drainedPhase};
 ghost use Rattle.monitor.specs.Calls.{openCall, rowCall, closeCall, drainCall, Leaves, Opens};
 use limits::STREAMS_MOST;
+use node::ENTRIES;
+use node::KINDS_MOST;
 use prepare::Prepared;
+use store::FRAME_ENTRIES;
+use store::FRAME_ROWS;
 
 pub enum Phase {
     Reading,
@@ -192,13 +196,13 @@ pub fn foreign(table: &[u8]) -> Fault
 
 // Turn t, where `known` rows are known: the store, then the output; the number of bytes.
 fn turn_out(
-    frame: Prepared,
+    kinds: &[[u8; ENTRIES]; KINDS_MOST],
+    prepared: Prepared,
     look: &[u16; STREAMS_MOST],
     kept: &[u16; STREAMS_MOST],
     types: &[u8; STREAMS_MOST],
     roles: &[u8; STREAMS_MOST],
     starts: &[u16; STREAMS_MOST],
-    parts: &[u16; STREAMS_MOST],
     order: &[u8; STREAMS_MOST],
     table: &[u8],
     store: &mut [u32],
@@ -207,40 +211,31 @@ fn turn_out(
     known: u64,
     t: u64,
 ) -> usize
-    requires { ⌜ TurnFits (now table) (now look) (now kept) (frameBy frame (now types) (now roles) (now starts) (now parts) (now order))
+    requires { ⌜ TurnFits (now kinds) (now table) (now look) (now kept) (briefBy prepared (now types) (now roles) (now starts) (now order))
         known t (length (now row)) (length (now store)) (length (now out)) ⌝ }
     ensures { λ r. ⌜ Turned (now (table .entry)) known t (now (row .entry)) (now (store .entry)) (now (out .entry))
         (now (store .exit)) (now (out .exit)) r ⌝ }
 {
-    let inputs = frame.inputs;
-    let streams = frame.streams;
+    let inputs = prepared.inputs;
+    let streams = prepared.streams;
+    let mut frame = [[0u32; FRAME_ENTRIES]; FRAME_ROWS];
     evaluate::turn(
         table,
+        kinds,
         store,
         row,
         types,
         look,
         kept,
-        parts,
         starts,
         order,
+        &mut frame,
         inputs,
         streams,
         known,
         t,
     );
-    output::emit(
-        store,
-        out,
-        roles,
-        look,
-        kept,
-        parts,
-        inputs,
-        streams,
-        known,
-        t,
-    )
+    output::emit(store, out, roles, look, &frame, inputs, streams, known, t)
 }
 
 // Opens a run: the check, then the store's announced words put to 0. A refusal hands back an all-zero record.
@@ -310,19 +305,19 @@ impl Run {
     // "a row with 10 to 16 in order".
     fn row_fault(
         self,
-        frame: Prepared,
+        prepared: Prepared,
         types: &[u8; STREAMS_MOST],
         lent: usize,
         row: &[u32],
         space: usize,
     ) -> Fault
-        requires { ⌜ frame .inputs ≤ mostStreams ⌝ }
-        ensures { λ r. ⌜ r ≡ rowTests self frame (now (types .entry)) lent (now (row .entry)) space ⌝ }
+        requires { ⌜ prepared .inputs ≤ mostStreams ⌝ }
+        ensures { λ r. ⌜ r ≡ rowTests self prepared (now (types .entry)) lent (now (row .entry)) space ⌝ }
     {
         let phase = self.phase;
-        if record_agrees(phase, self.rows, self.done, frame.closing) {
-            let inputs = frame.inputs;
-            if lent < frame.words {
+        if record_agrees(phase, self.rows, self.done, prepared.closing) {
+            let inputs = prepared.inputs;
+            if lent < prepared.words {
                 return fault_of(limits::SHORT_STORE, 0);
             }
             if reading(phase) {
@@ -334,7 +329,7 @@ impl Run {
                     if bad < inputs {
                         return fault_of(limits::FLAG, bad);
                     }
-                    if space < frame.room {
+                    if space < prepared.room {
                         return fault_of(limits::SHORT_OUTPUT, 0);
                     }
                     fault_of(limits::ACCEPTED, 0)
@@ -350,16 +345,16 @@ impl Run {
     }
 
     // "draining with 10, 11, 12, 16".
-    fn drain_fault(self, frame: Prepared, lent: usize, space: usize) -> Fault
-        ensures { λ r. ⌜ r ≡ drainTests self frame lent space ⌝ }
+    fn drain_fault(self, prepared: Prepared, lent: usize, space: usize) -> Fault
+        ensures { λ r. ⌜ r ≡ drainTests self prepared lent space ⌝ }
     {
         let phase = self.phase;
-        if record_agrees(phase, self.rows, self.done, frame.closing) {
-            if lent < frame.words {
+        if record_agrees(phase, self.rows, self.done, prepared.closing) {
+            if lent < prepared.words {
                 return fault_of(limits::SHORT_STORE, 0);
             }
             if draining(phase) {
-                if space < frame.room {
+                if space < prepared.room {
                     return fault_of(limits::SHORT_OUTPUT, 0);
                 }
                 fault_of(limits::ACCEPTED, 0)
@@ -371,61 +366,61 @@ impl Run {
         }
     }
 
-    // The first fault of a turn's call, by its frame: of a closing turn, or of a row.
+    // The first fault of a turn's call, by what is prepared: of a closing turn, or of a row.
     fn turn_fault(
         self,
         drains: bool,
-        frame: Prepared,
+        prepared: Prepared,
         types: &[u8; STREAMS_MOST],
         lent: usize,
         row: &[u32],
         space: usize,
     ) -> Fault
-        requires { ⌜ frame .inputs ≤ mostStreams ⌝ }
-        ensures { λ r. ⌜ r ≡ turnTests drains self frame (now (types .entry)) lent (now (row .entry)) space ⌝ }
+        requires { ⌜ prepared .inputs ≤ mostStreams ⌝ }
+        ensures { λ r. ⌜ r ≡ turnTests drains self prepared (now (types .entry)) lent (now (row .entry)) space ⌝ }
     {
         if drains {
-            self.drain_fault(frame, lent, space)
+            self.drain_fault(prepared, lent, space)
         } else {
-            self.row_fault(frame, types, lent, row, space)
+            self.row_fault(prepared, types, lent, row, space)
         }
     }
 
-    // A turn by its frame: its tests, then the store and the output.
+    // A turn by what is prepared: its tests, then the store and the output.
     fn turn_by(
         self,
         drains: bool,
-        frame: Prepared,
+        kinds: &[[u8; ENTRIES]; KINDS_MOST],
+        prepared: Prepared,
+        look: &[u16; STREAMS_MOST],
+        kept: &[u16; STREAMS_MOST],
         types: &[u8; STREAMS_MOST],
         roles: &[u8; STREAMS_MOST],
         starts: &[u16; STREAMS_MOST],
-        parts: &[u16; STREAMS_MOST],
         order: &[u8; STREAMS_MOST],
         table: &[u8],
         store: &mut [u32],
         row: &[u32],
         out: &mut [u8],
     ) -> Taken
-        requires { ⌜ Prepares (now table) (self .look) (self .kept) (frameBy frame (now types) (now roles) (now starts) (now parts) (now order)) ⌝ }
+        requires { ⌜ TurnReady self (now kinds) (now table) (now look) (now kept) (briefBy prepared (now types) (now roles) (now starts) (now order)) ⌝ }
         ensures { λ r. ⌜ Took drains (now (table .entry)) self (now (row .entry)) (now (store .entry)) (now (out .entry))
             (now (store .exit)) (now (out .exit)) r ⌝ }
     {
-        let fault = self.turn_fault(drains, frame, types, store.len(), row, out.len());
+        let fault = self.turn_fault(drains, prepared, types, store.len(), row, out.len());
         if fault.number != limits::ACCEPTED {
             return took(fault, 0, 0);
         }
-        let look = self.look;
-        let kept = self.kept;
         let known = known_rows(drains, self.rows);
         let t = wire::word_wide(self.rows) + wire::short_wide(self.done);
         let count = turn_out(
-            frame,
-            &look,
-            &kept,
+            kinds,
+            prepared,
+            look,
+            kept,
             types,
             roles,
             starts,
-            parts,
             order,
             table,
             store,
@@ -434,7 +429,7 @@ impl Run {
             known,
             t,
         );
-        took(fault, count, frame.closing)
+        took(fault, count, prepared.closing)
     }
 
     // The next turn, of a row or, where it drains, a closing one: "Every call tests the table first."
@@ -451,29 +446,31 @@ impl Run {
     {
         let look = self.look;
         let kept = self.kept;
+        let kinds = node::kind_table();
         let mut types = [0u8; STREAMS_MOST];
         let mut roles = [0u8; STREAMS_MOST];
         let mut starts = [0u16; STREAMS_MOST];
-        let mut parts = [0u16; STREAMS_MOST];
         let mut order = [0u8; STREAMS_MOST];
-        let frame = prepare::prepare(
+        let prepared = prepare::prepare(
             table,
+            &kinds,
             &look,
             &kept,
             &mut types,
             &mut roles,
             &mut starts,
-            &mut parts,
             &mut order,
         );
-        if frame.ok {
+        if prepared.ok {
             self.turn_by(
                 drains,
-                frame,
+                &kinds,
+                prepared,
+                &look,
+                &kept,
                 &types,
                 &roles,
                 &starts,
-                &parts,
                 &order,
                 table,
                 store,
@@ -519,25 +516,25 @@ impl Run {
         accepted(run, turn.count)
     }
 
-    // The sums of the frame by the record's numbers, for a call that has no turn.
+    // The sums by the record's numbers, for a call that has no turn.
     fn sums(self, table: &[u8]) -> Prepared
         ensures { λ r. ⌜ Summed (now (table .entry)) (self .look) (self .kept) r ⌝ }
     {
         let look = self.look;
         let kept = self.kept;
+        let kinds = node::kind_table();
         let mut types = [0u8; STREAMS_MOST];
         let mut roles = [0u8; STREAMS_MOST];
         let mut starts = [0u16; STREAMS_MOST];
-        let mut parts = [0u16; STREAMS_MOST];
         let mut order = [0u8; STREAMS_MOST];
         prepare::prepare(
             table,
+            &kinds,
             &look,
             &kept,
             &mut types,
             &mut roles,
             &mut starts,
-            &mut parts,
             &mut order,
         )
     }
@@ -562,15 +559,15 @@ impl Run {
     pub fn close(self, table: &[u8]) -> Answer
         ensures { λ r. ⌜ r ≡ closeCall (now (table .entry)) self .answer ⌝ }
     {
-        let frame = self.sums(table);
-        if frame.ok {
-            let fault = self.close_fault(frame.closing);
+        let prepared = self.sums(table);
+        if prepared.ok {
+            let fault = self.close_fault(prepared.closing);
             if fault.number != limits::ACCEPTED {
                 return refused(self, fault);
             }
             let look = self.look;
             let kept = self.kept;
-            let phase = closed_phase(self.rows, frame.closing);
+            let phase = closed_phase(self.rows, prepared.closing);
             let run = run_with(look, kept, self.rows, phase, 0);
             accepted(run, 0)
         } else {

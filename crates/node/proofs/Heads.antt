@@ -1,28 +1,16 @@
 -- What stands at a place, by the node that is read there and its fault. Assumes nothing.
-use mathlib.Core.Path.{_≡_, refl, _∙_}
-use mathlib.Core.List.{List, [], _∷_}
-use mathlib.Core.Logic.{⊎-elim}
+use mathlib.Core.Path.{_≡_}
+use mathlib.Core.List.{List}
 use Prim.Native.Nat.{ℕ, _≤_}
 use native.Mathlib.Omega.{arith}
 use borrow.Author.Tests.{eq-eqb, ne-eqb, eqb-false}
 use lib.Dec.{eqb}
-use types.Run.{OneOf}
-use denote.Enum.Declared.{tagOf}
 use Rattle.limits.specs.Refusals.{tooDeep}
 use Rattle.basis.proofs.Tests.{pick-case}
-use Rattle.node.proofs.Node.{the-type}
 use Rattle.node.specs.Head as head
-use Rattle.node.specs.Node.{nodeAt, faultOf, faultAt, headOf, headBy, headAt}
+use Rattle.node.specs.Node.{nodeAt, faultOf, faultAt, headOf, headBy, headAt, Fault, Got}
 use Rattle.node.specs.declared.Node.{Node}
-use Rattle.node.specs.declared.Node.the-variants.{Constant, Now, At, Operator}
-use Rattle.node.specs.declared.NodeRead.the-variants.{Fault, Got}
-
-leaf-head : (n : Node) (next : ℕ) → OneOf (0 ∷ 1 ∷ 2 ∷ []) (tagOf the-type n) → headOf n next ≡ head.Leaf n next
-unfolding headOf
-leaf-head (Constant t x) next h = refl
-leaf-head (Now v) next h = refl
-leaf-head (At v k d) next h = refl
-leaf-head (Operator k) next h = absurd (⊎-elim (λ e. omega arith) (⊎-elim (λ e. omega arith) (λ e. omega arith)) h)
+use Rattle.node.specs.declared.Node.the-variants.{Operator}
 
 -- a node without a fault has a level left, and none of its own
 pub faultless : (l : ℕ) (ts : List ℕ) (w : ℕ) (n : Node) → faultAt l ts w n ≡ 0 → (1 ≤ l) × (faultOf ts w n ≡ 0)
@@ -37,16 +25,13 @@ module _ (l : ℕ) (ts s : List ℕ) (w at : ℕ) where
 
   -- a node n, whose fault is a
   module _ {n : Node} {next a : ℕ} (e : nodeAt s at ≡ Got n next) (f : a ≡ faultAt l ts w n) where
-    pub refused : (a ≡ 0 → ⊥) → headAt l ts s w at ≡ head.Refused a
+    refused : (a ≡ 0 → ⊥) → headAt l ts s w at ≡ head.Refused a
     unfolding headAt headBy
     refused b = rw (e, ← f, ne-eqb _ _ b)
 
     whole : a ≡ 0 → headAt l ts s w at ≡ headOf n next
     unfolding headAt headBy
     whole b = rw (e, ← f, eq-eqb _ _ b)
-
-    pub is-leaf : a ≡ 0 → OneOf (0 ∷ 1 ∷ 2 ∷ []) (tagOf the-type n) → headAt l ts s w at ≡ head.Leaf n next
-    is-leaf b h = whole b ∙ leaf-head n next h
 
   -- an operator, whose fault is a
   module _ {n : Node} {next k a : ℕ} (e : nodeAt s at ≡ Got n next) (q : n ≡ Operator k) (f : a ≡ faultAt l ts w (Operator k)) where

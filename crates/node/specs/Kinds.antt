@@ -1,14 +1,29 @@
--- The kinds of an expression's nodes, row by row as document 01, "The table", lists them: "one byte of kind, then a body whose length the
+-- The kinds of a table's records, row by row as document 01, "The table", lists them: "one byte of kind, then a body whose length the
 -- kind fixes". Assumes nothing.
-use Prim.Native.Nat.{ℕ}
+use Prim.Native.Nat.{ℕ, _<_, _^_}
+use mathlib.Core.Path.{_≡_}
 use mathlib.Core.Bool.{cond}
 use mathlib.Core.List.{List, [], _∷_}
 use lib.Dec.{eqb}
-use Rattle.node.specs.declared.Rule.{Rule}
+use lib.ListN.{getD}
 
--- a kind that no node has
+-- What a kind fixes. form: 0 no expression node, 1 constant, 2 now, 3 at, 4 operator. A type is 0 flag, 1 word, 2 level, and 3 stands for the
+-- wanted type. `first` is the type of the first operand, `rest` that of the others.
+pub record Rule : Type 0 where
+  pub form : ℕ
+  pub body : ℕ
+  pub operands : ℕ
+  pub first : ℕ
+  pub rest : ℕ
+  pub result : ℕ
+
+-- a record that is no expression node: the length of its body
+abbrev pub heading : ℕ → Rule
+heading b = record { form = 0; body = b; operands = 0; first = 0; rest = 0; result = 0 }
+
+-- a kind that no record has
 abbrev pub noRule : Rule
-noRule = record { form = 0; body = 0; operands = 0; first = 0; rest = 0; result = 0 }
+noRule = heading 0
 
 -- a constant: the length of its body and its type. Types are 0 flag, 1 word, 2 level.
 abbrev pub constant : ℕ → ℕ → Rule
@@ -28,7 +43,11 @@ row k r = record { kind = k; rule = r }
 
 unfoldable pub rows : List Row
 rows =
-    row 0x10 (constant 1 0)
+    row 0x01 (heading 3)
+    ∷ row 0x02 (heading 1)
+    ∷ row 0x03 (heading 2)
+    ∷ row 0x04 (heading 1)
+    ∷ row 0x10 (constant 1 0)
     ∷ row 0x11 (constant 4 1)
     ∷ row 0x12 (constant 4 2)
     ∷ row 0x13 (record { form = 2; body = 1; operands = 0; first = 0; rest = 0; result = 3 })
@@ -64,3 +83,23 @@ ruleOf k = look rows k
 -- with its stream
 unfoldable pub meant : ℕ → ℕ → ℕ
 meant t w = cond (eqb t 3) w t
+
+-- the type of an operand behind the first one, of n operands the first of which is of the type a: "if: flag, then, else (both of the wanted type)"
+unfoldable pub restOf : ℕ → ℕ → ℕ → ℕ
+restOf n a w = cond (eqb n 3) w a
+
+-- the kinds from 00 to the last one
+abbrev pub manyKinds : ℕ
+manyKinds = 0x30
+
+-- the types that a node of this rule can be of, as a set of bits (1 flag, 2 word, 4 level); none where the rule is of no node
+unfoldable pub resultsOf : Rule → ℕ
+resultsOf r = cond (eqb (r .form) 0) 0 (cond (eqb (r .result) 3) 7 (2 ^ (r .result)))
+
+-- "A constant table by kind: body length, number of operands, operand and result types": the entries of a kind
+unfoldable pub entriesOf : ℕ → List ℕ
+entriesOf k = let r = ruleOf k in r .body ∷ r .operands ∷ r .first ∷ resultsOf r ∷ []
+
+-- the constant table has each kind's entries
+abbrev pub Tabulated : List (List ℕ) → Type 0
+Tabulated kinds = (k : ℕ) → k < manyKinds → getD kinds k [] ≡ entriesOf k

@@ -1,7 +1,7 @@
 -- One expression node: its decoding, and its faults in their order where a type is wanted: "missing kind byte (2), 3, missing body (2), 6,
 -- 4, 5" (document 01, "The table" and "Refusal numbers"). Assumes nothing.
 use Prim.Native.Nat.{ℕ, zero, suc, _+_, _-_, _≤_}
-use mathlib.Core.Bool.{cond}
+use mathlib.Core.Bool.{Bool, true, false, cond}
 use mathlib.Core.List.{List}
 use mathlib.Core.Path.{_≡_}
 use lib.Dec.{ltb, leb, eqb}
@@ -10,14 +10,11 @@ use lib.IntN.{ℤ, pos, negsuc}
 use Rattle.limits.specs.Limits.{mostStreams}
 use Rattle.limits.specs.Refusals.{missing, wrongKind, wrongField, wrongType, tooDeep}
 use Rattle.wire.specs.Bytes.{wordAt}
-use Rattle.node.specs.declared.Rule.{Rule}
 use Rattle.node.specs.declared.Node.{Node}
 use Rattle.node.specs.declared.Node.the-variants.{Constant, Now, At, Operator}
-use Rattle.node.specs.declared.NodeRead.{NodeRead}
-use Rattle.node.specs.declared.NodeRead.the-variants.{Fault, Got}
 use Rattle.node.specs.Head.{Head}
 use Rattle.node.specs.Head as head
-use Rattle.node.specs.Kinds.{ruleOf, meant}
+use Rattle.node.specs.Kinds.{Rule, ruleOf, meant}
 
 -- "signed offset byte k"
 unfoldable pub signedOf : ℕ → ℤ
@@ -32,6 +29,29 @@ nodeOf s k at =
     (cond (eqb k 0x13) (Now (getD s at 0))
     (cond (eqb k 0x14) (At (getD s at 0) (signedOf (getD s (at + 1) 0)) (wordAt s (at + 2)))
     (Operator k)))))
+
+-- a node without operands: "a constant, a reference to a stream"
+unfoldable pub isLeaf : Node → Bool
+isLeaf (Constant t x) = true
+isLeaf (Now v) = true
+isLeaf (At v k d) = true
+isLeaf (Operator k) = false
+
+-- the length of its body, by the rule of its kind; an operator has none
+unfoldable pub leafBody : Node → ℕ
+leafBody (Constant t x) = cond (eqb t 0) (ruleOf 0x10 .body) (ruleOf 0x11 .body)
+leafBody (Now v) = ruleOf 0x13 .body
+leafBody (At v k d) = ruleOf 0x14 .body
+leafBody (Operator k) = 0
+
+-- the node at a place as far as the table goes: a byte past its end counts as 0, which is no node's kind
+abbrev pub standing : List ℕ → ℕ → Node
+standing s at = nodeOf s (getD s at 0) (at + 1)
+
+-- what is read at a place: a node and the place behind its body, or the number of a fault
+pub data NodeRead : Type 0 where
+  Fault : ℕ → NodeRead
+  Got : Node → ℕ → NodeRead
 
 -- the node of the kind k whose body of b bytes starts at a place, with the place behind it; `missing` where the body is not there
 abbrev pub wholeAt : List ℕ → (k start b : ℕ) → NodeRead
@@ -93,3 +113,15 @@ headBy l ts w (Got node next) = cond (eqb (faultAt l ts w node) 0) (headOf node 
 -- what stands at a place where a node of the type w is wanted, with l levels left
 unfoldable pub headAt : ℕ → List ℕ → List ℕ → ℕ → ℕ → Head
 headAt l ts s w at = headBy l ts w (nodeAt s at)
+
+-- the fault of a kind that can be of the types `results`, none of which is wanted
+unfoldable pub resultFault : ℕ → ℕ
+resultFault results = cond (eqb results 0) wrongKind wrongType
+
+-- the number of a fault, or of a node that is one level too deep
+unfoldable pub deepOf : NodeRead → ℕ
+deepOf (Fault why) = why
+deepOf (Got node next) = tooDeep
+
+abbrev pub deepFault : List ℕ → ℕ → ℕ
+deepFault s at = deepOf (nodeAt s at)

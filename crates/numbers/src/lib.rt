@@ -1,52 +1,59 @@
-// Sums over the streams: of their kept numbers, of their look-aheads, of their roles (document 01, "What the check announces").
-// It assumes nothing.
+// Sums over the streams' numbers, and whether numbers are 0 past the last stream (document 01, "What the check announces"). It assumes nothing.
 ghost use mathlib.Core.Path.{_≡_};
-ghost use Prim.Native.Nat.{_≤_, _<_};
-ghost use lib.ListN.{getD};
+ghost use Prim.Native.Nat.{_≤_};
 ghost use Rattle.limits.specs.Limits.{mostStreams};
+ghost use Rattle.basis.specs.Firsts.{of};
 ghost use Rattle.basis.specs.Sums.{total, most};
+ghost use Rattle.numbers.specs.Past.{Decides, ZeroPast};
 use limits::STREAMS_MOST;
 
-// The sum of the first `s` numbers.
-pub fn sum(numbers: &[u16; STREAMS_MOST], s: usize) -> usize
-    requires { ⌜ s ≤ mostStreams ⌝ }
-    ensures { λ r. ⌜ r ≡ total (λ v. getD (now (numbers .entry)) v 0) s ⌝ }
-{
-    let mut words = 0;
-    let mut v = 0;
-    while v < s {
-        words += wire::short_size(numbers[v]);
-        v += 1;
-    }
-    words
+// The sums that the check announces: store words, triggers (for the room), closing turns.
+pub struct Totals {
+    pub words: usize,
+    pub triggers: usize,
+    pub closing: u16,
 }
 
-// The largest of the first `s` numbers.
-pub fn largest(numbers: &[u16; STREAMS_MOST], s: usize) -> u16
+// The sums over the first `s` streams.
+pub fn sums(
+    look: &[u16; STREAMS_MOST],
+    kept: &[u16; STREAMS_MOST],
+    roles: &[u8; STREAMS_MOST],
+    s: usize,
+) -> Totals
     requires { ⌜ s ≤ mostStreams ⌝ }
-    ensures { λ r. ⌜ r ≡ most (λ v. getD (now (numbers .entry)) v 0) s ⌝ }
+    ensures { λ r. ⌜ (r .words ≡ total (of (now (kept .entry))) s) × (r .triggers ≡ total (of (now (roles .entry))) s)
+        × (r .closing ≡ most (of (now (look .entry))) s) ⌝ }
 {
-    let mut best = 0;
+    let mut words = 0;
+    let mut triggers = 0;
+    let mut closing = 0;
     let mut v = 0;
     while v < s {
-        if best < numbers[v] {
-            best = numbers[v];
+        words += wire::short_size(kept[v]);
+        triggers += wire::byte_size(roles[v]);
+        if closing < look[v] {
+            closing = look[v];
         }
         v += 1;
     }
-    best
+    Totals {
+        words: words,
+        triggers: triggers,
+        closing: closing,
+    }
 }
 
-// How many of the first `s` streams are triggers.
-pub fn triggers(roles: &[u8; STREAMS_MOST], s: usize) -> usize
+// "(0 past S)": whether both numbers are 0 from the stream `s` on.
+pub fn zero_past(look: &[u16; STREAMS_MOST], kept: &[u16; STREAMS_MOST], s: usize) -> bool
     requires { ⌜ s ≤ mostStreams ⌝ }
-    ensures { λ r. ⌜ r ≡ total (λ v. getD (now (roles .entry)) v 0) s ⌝ }
+    ensures { λ r. ⌜ Decides r (ZeroPast (now (look .entry)) s × ZeroPast (now (kept .entry)) s) ⌝ }
 {
-    let mut count = 0;
-    let mut v = 0;
-    while v < s {
-        count += wire::byte_size(roles[v]);
+    let mut any: u16 = 0;
+    let mut v = s;
+    while v < STREAMS_MOST {
+        any = any | look[v] | kept[v];
         v += 1;
     }
-    count
+    any == 0
 }

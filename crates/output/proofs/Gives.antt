@@ -13,8 +13,9 @@ use Rattle.basis.specs.Firsts.{of}
 use Rattle.run.specs.Turn.{due}
 use Rattle.basis.specs.Given.{Given}
 use Rattle.run.specs.Run.{gather}
-use Rattle.store.specs.Store.{wordOf}
-use Rattle.output.specs.Encoding.{Emitted, roomFrom, wordOn, bytesOf, outputOf}
+use Rattle.store.specs.Store.{wordOf, placeIn, Framed, Findable}
+use Rattle.store.proofs.Places.{findable, is-word}
+use Rattle.output.specs.Encoding.{Emitted, roomFrom, wordOn, bytesOf, outputOf, CanGive, CanEmit}
 use Rattle.records.specs.Kinds.{valueSize, triggerSize}
 use Rattle.records.specs.Encoding.{valueRecord, triggerRecord, recordOf, encode}
 use Rattle.records.proofs.Sizes.{value-record-length, trigger-record-length}
@@ -41,6 +42,11 @@ room-more roles k y = omega arith
 module _ (roles look kept st : List ℕ) (n t y : ℕ) where
   pub word-of-turn : {a w : ℕ} → a ≡ getD look y 0 → w ≡ wordOf kept st y (t - a) → w ≡ wordOn look kept st t y
   word-of-turn e f = rw (← e) f
+
+  -- the word that the frame has for the turn
+  pub word-found : {types : List ℕ} {streams : ℕ} {frame : List (List ℕ)} {a w : ℕ} → Framed types look kept streams n t frame → y < streams → 0 < of kept y → a ≡ getD look y 0 → a ≤ t → t - a < n
+      → w ≡ getD st (placeIn frame y (t - a)) 0 → w ≡ wordOf kept st y (t - a)
+  word-found f l some e h k g = is-word f l (record { inside = k; come = omega (arith, e); stays = omega (arith, e, some) }) st g
 
   module _ {a : ℕ} (e : a ≡ getD look y 0) where
     pub early-gives-none : t < a → bytesOf roles look kept st n t y ≡ []
@@ -136,3 +142,15 @@ module _ (roles look kept st : List ℕ) (n t : ℕ) where
       let z : streams - y ≡ 0 = omega arith in
       let e : x .done ++ outputOf roles look kept st n t 0 y ≡ whole = rw z at (x .whole-is) in
       wrote-front (wrote-as (sym e ∙ ap (λ (l : List ℕ). x .done ++ l) (output-none y) ∙ append-nil (x .done)) (x .wrote))
+
+-- what each stream needs to give its bytes
+module _ {roles look : List ℕ} {frame : List (List ℕ)} {words room n t inputs streams : ℕ} (x : CanEmit roles look frame words room n t inputs streams) {y : ℕ} (l : y < streams) where
+  -- each list of kept numbers that the frame was laid from has some for y
+  pub keeps-some : {types kept : List ℕ} → Framed types look kept streams n t frame → 0 < of kept y
+  keeps-some f = omega (arith, f .laid .keeps y l, x .framed .laid .keeps y l, x .some y l)
+
+  turn-found : of look y ≤ t → t - of look y < n → Findable frame words y (t - of look y)
+  turn-found h k = findable (x .framed) l (record { inside = k; come = omega arith; stays = omega (arith, x .some y l) }) (x .few) (x .stored)
+
+  pub can-give : {size at : ℕ} → at + roomFrom roles 1 y ≤ size → CanGive roles look frame words size n t y at
+  can-give h = record { few = omega (arith, x .few); found = turn-found; rows = x .rows; fits = h }

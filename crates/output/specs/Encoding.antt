@@ -10,7 +10,7 @@ use Rattle.basis.specs.Firsts.{of}
 use Rattle.run.specs.Turn.{due}
 use Rattle.limits.specs.Limits.{mostStreams}
 use Rattle.run.specs.Run.{gather}
-use Rattle.store.specs.Store.{wordOf, PartIn}
+use Rattle.store.specs.Store.{layoutOf, wordOf, Framed, Findable}
 use Rattle.records.specs.Kinds.{valueSize, triggerSize}
 use Rattle.records.specs.Encoding.{recordOf, encode}
 
@@ -36,16 +36,36 @@ bytesOf roles look kept st n t y =
 unfoldable pub outputOf : (roles look kept st : List ℕ) (n t k y : ℕ) → List ℕ
 outputOf roles look kept st n t k y = encode roles (gather (of look) n t (wordOn look kept st t) k y)
 
--- one stream's bytes fit from `at` on into an output of `room` bytes, and the stream's part lies in a store of so many words
-abbrev pub CanGive : (roles kept parts : List ℕ) (words room n y at : ℕ) → Type 0
-CanGive roles kept parts words room n y at = (y < mostStreams) × (PartIn kept parts words y × ((n < 2 ^ 32) × (at + roomFrom roles 1 y ≤ room)))
+-- y's bytes fit from `at` on into an output of `room` bytes, and a store of so many words has y's word where the frame of turn t says
+pub record CanGive (roles look : List ℕ) (frame : List (List ℕ)) (words room n t y at : ℕ) : Type 0 where
+  pub few : y < mostStreams
+  pub found : of look y ≤ t → t - of look y < n → Findable frame words y (t - of look y)
+  pub rows : n < 2 ^ 32
+  pub fits : at + roomFrom roles 1 y ≤ room
 
--- all outputs' bytes fit, and each stream's part lies in the store
-abbrev pub CanEmit : (roles kept parts : List ℕ) (words room n inputs streams : ℕ) → Type 0
-CanEmit roles kept parts words room n inputs streams =
-    (inputs ≤ streams) × ((streams ≤ mostStreams) × (((v : ℕ) → v < streams → PartIn kept parts words v) × ((n < 2 ^ 32) × (roomFrom roles (streams - inputs) inputs ≤ room))))
+-- what y gives, by the numbers that the frame was laid from
+abbrev pub Gives : (roles look : List ℕ) (frame : List (List ℕ)) (st : List ℕ) (n t y : ℕ) → (List ℕ → Type 0) → Type 0
+Gives roles look frame st n t y P =
+    (types kept : List ℕ) (streams : ℕ) → Framed types look kept streams n t frame → y < streams → 0 < of kept y → P (bytesOf roles look kept st n t y)
+
+-- all outputs' bytes fit, and the store is as long as announced
+pub record CanEmit (roles look : List ℕ) (frame : List (List ℕ)) (words room n t inputs streams : ℕ) : Type 0 where
+  pub types : List ℕ
+  pub kept : List ℕ
+  pub framed : Framed types look kept streams n t frame
+  pub some : (v : ℕ) → v < streams → 0 < of kept v
+  pub stored : layoutOf types (of kept) .words ≤ words
+  pub outputs : inputs ≤ streams
+  pub few : streams ≤ mostStreams
+  pub rows : n < 2 ^ 32
+  pub fits : roomFrom roles (streams - inputs) inputs ≤ room
 
 -- the bytes stand at the front of the output, and `count` is their number
 pub record Emitted (bytes before after : List ℕ) (count : ℕ) : Type 0 where
   pub counted : count ≡ length bytes
   pub written : after ≡ overwritten bytes before
+
+-- the outputs' values of turn t, by the numbers that the frame was laid from
+abbrev pub Emits : (roles look : List ℕ) (frame : List (List ℕ)) (st : List ℕ) (n t inputs streams : ℕ) (before after : List ℕ) (count : ℕ) → Type 0
+Emits roles look frame st n t inputs streams before after count =
+    (types kept : List ℕ) → Framed types look kept streams n t frame → Emitted (outputOf roles look kept st n t (streams - inputs) inputs) before after count

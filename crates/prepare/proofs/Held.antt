@@ -23,14 +23,13 @@ use Rattle.meaning.specs.Expressions.{ops, OfType}
 use Rattle.meaning.specs.Plans.{planOf, tablePlan, FitsIn}
 use Rattle.meaning.proofs.Typing.{meaning-same}
 use Rattle.meaning.proofs.Accepted.{table-announced}
-use Rattle.store.specs.Store.{layoutOf, PartIn}
+use Rattle.store.specs.Store.{layoutOf}
 use Rattle.store.proofs.Layouts.{layout-same}
-use Rattle.store.proofs.Places.{part-in}
 use Rattle.evaluate.specs.Turns.{Turnable}
 use Rattle.output.specs.Encoding.{roomFrom}
 use Rattle.announce.specs.Announced.{announced}
 use Rattle.prepare.specs.PlanFor.{tableIn, rowFits, planFor}
-use Rattle.prepare.specs.Preparing.{Frame, Prepares}
+use Rattle.prepare.specs.Preparing.{Brief, Prepares}
 use Rattle.prepare.proofs.Announcing.{store-words}
 use Rattle.prepare.proofs.Rooms.{room-of-outputs}
 
@@ -39,7 +38,7 @@ abbrev pub placeBehind : Parsed → ℕ
 placeBehind (good e n) = n
 placeBehind (bad why place) = 0
 
-module _ {s look kept : List ℕ} {p : Frame} (x : Prepares s look kept p) where
+module _ {s look kept : List ℕ} {p : Brief} (x : Prepares s look kept p) where
   abbrev pub t : Table
   t = x .table
 
@@ -104,9 +103,8 @@ module _ {s look kept : List ℕ} {p : Frame} (x : Prepares s look kept p) where
   pub words-held : layoutOf (p .types) (of kept) .words ≡ p .words
   words-held = ap (λ (k : List ℕ). layoutOf (p .types) (of k) .words) (sym (x .kept-is)) ∙ store-words s (p .types) (x .accepted) ∙ sym (x .words-are)
 
-  pub part-held : (n : ℕ) → p .words ≤ n → (v : ℕ) → v < p .streams → PartIn kept (p .parts) n v
-  part-held n h v l =
-      part-in kept (p .parts) (p .streams) n v (x .parts-are) (omega (arith, x .words-sum)) l (x .ordered .right .keeps v (omega (arith, x .streams-are)) .some)
+  pub some-kept : (v : ℕ) → v < p .streams → 0 < of kept v
+  some-kept v l = x .ordered .right .keeps v (omega (arith, x .streams-are)) .some
 
   pub parsed-held : (y : ℕ) → p .inputs ≤ y → y < p .streams
       → parse mostLevels (take (p .streams) (p .types)) s (getD (t .types) y 0) (getD (p .starts) y 0) ≡ good (equationOf t y .expr) (placeBehind (parse mostLevels (take (p .streams) (p .types)) s (getD (t .types) y 0) (getD (p .starts) y 0)))
@@ -120,7 +118,7 @@ module _ {s look kept : List ℕ} {p : Frame} (x : Prepares s look kept p) where
       e ∙ ap (good (equationOf t y .expr)) (sym (ap placeBehind e))
 
   -- a turn over a store of n words can go by the plan
-  abbrev pub ready : (n : ℕ) → p .words ≤ n → Turnable s (p .types) look kept (p .parts) (p .starts) (p .order) (p .inputs) (p .streams) n
+  abbrev pub ready : (n : ℕ) → p .words ≤ n → Turnable s (p .types) look kept (p .starts) (p .order) (p .inputs) (p .streams) n
   ready n h = record {
     eqs = λ y. equationOf t y .expr;
     closing = announced s .closing;
@@ -135,7 +133,6 @@ module _ {s look kept : List ℕ} {p : Frame} (x : Prepares s look kept p) where
       back = λ v l. x .ordered .placed v (omega (arith, l, x .streams-are));
     };
     fits = omega (arith, words-held);
-    part = part-held n h;
     wanted = λ y. getD (t .types) y 0;
     behind = λ y. placeBehind (parse mostLevels (take (p .streams) (p .types)) s (getD (t .types) y 0) (getD (p .starts) y 0));
     parsed = parsed-held;

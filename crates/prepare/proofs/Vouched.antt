@@ -9,7 +9,7 @@ use lib.ListN.{length, getD}
 use Rattle.basis.specs.Firsts.{of}
 use Rattle.basis.specs.Sums.{total, most}
 use Rattle.basis.proofs.Sums.{total-same, most-same, total-bound}
-use Rattle.limits.specs.Limits.{mostStreams, mostWords}
+use Rattle.limits.specs.Limits.{mostStreams}
 use Rattle.records.specs.Kinds.{roomOf}
 use Rattle.table.specs.Table.{Table, streams}
 use Rattle.table.specs.Sound.{Sound}
@@ -17,20 +17,19 @@ use Rattle.table.proofs.Entries.{padded-at}
 use Rattle.table.proofs.Sound.{sound}
 use Rattle.announce.specs.declared.Checked.{Checked}
 use Rattle.announce.specs.Announced.{lookAhead, roomBytes, closingTurns, acceptance, announced}
-use Rattle.store.specs.Store.{Parted}
 use Rattle.vouch.specs.Vouching.{Vouched, Vouches, Verdict}
-use Rattle.prepare.specs.Preparing.{Frame, Prepares, Preparing}
+use Rattle.prepare.specs.Preparing.{Brief, Prepares, Preparing}
 use Rattle.prepare.proofs.Announcing.{announced-certified, look-announced, kept-announced-list, words-announced, closing-announced, certified-accepted}
 
 pub vouched-for : {b : Bool} {s look kept : List ℕ} {r : Vouched} → b ≡ true → Verdict b s look kept r → Vouches s look kept r
 vouched-for {s = s} {look = look} {kept = kept} {r = r} e v = subst (λ (b : Bool). Verdict b s look kept r) e v
 
-pub not-prepared : (s look kept : List ℕ) (r : Vouched) (p : Frame) {a b : Bool} → a ≡ false → Verdict a s look kept r → b ≡ false → Preparing b s look kept p
+pub not-prepared : (s look kept : List ℕ) (r : Vouched) (p : Brief) {a b : Bool} → a ≡ false → Verdict a s look kept r → b ≡ false → Preparing b s look kept p
 not-prepared s look kept r p e v g =
     subst (λ (b : Bool). Preparing b s look kept p) (sym g) (announced-certified s look kept (subst (λ (b : Bool). Verdict b s look kept r) e v))
 
 -- the sum of roles that are 0 or 1
-pub few-triggers : (roles : List ℕ) (n : ℕ) → ((v : ℕ) → getD roles v 0 ≤ 1) → total (of roles) n ≤ 1 * n
+few-triggers : (roles : List ℕ) (n : ℕ) → ((v : ℕ) → getD roles v 0 ≤ 1) → total (of roles) n ≤ 1 * n
 few-triggers roles n h = total-bound (of roles) n 1 (λ v l. h v)
 
 module _ {s look kept : List ℕ} {r : Vouched} (v : Vouches s look kept r) where
@@ -46,14 +45,14 @@ module _ {s look kept : List ℕ} {r : Vouched} (v : Vouches s look kept r) wher
   pub vouched-some : r .inputs ≤ r .streams
   vouched-some = omega (arith, fine .some-output, v .inputs-are, v .streams-are)
 
-  pub vouched-store : total (of kept) (r .streams) ≤ mostWords
-  vouched-store = subst (λ (n : ℕ). total (of kept) n ≤ mostWords) (sym (v .streams-are)) (v .certified .bounded .store)
-
   role-at : (u : ℕ) → getD (r .roles) u 0 ≡ getD (t .roles) u 0
   role-at u = ap (λ (l : List ℕ). getD l u 0) (v .roles-are) ∙ padded-at (t .roles) u
 
   pub vouched-roles : (u : ℕ) → getD (r .roles) u 0 ≤ 1
   vouched-roles u = omega (arith, fine .role-is u, role-at u)
+
+  pub vouched-triggers : total (of (r .roles)) (r .streams) ≤ 1 * r .streams
+  vouched-triggers = few-triggers (r .roles) (r .streams) vouched-roles
 
   module _ (look-long : length look ≡ mostStreams) (kept-long : length kept ≡ mostStreams) where
     accepts : announced s ≡ acceptance t
@@ -73,7 +72,7 @@ module _ {s look kept : List ℕ} {r : Vouched} (v : Vouches s look kept r) wher
         ∙ most-same (of look) (lookAhead t) (streams t) (closing-announced s t (v .decodes) look kept (v .certified) look-long kept-long)
 
     -- what is prepared by numbers that are vouched for, with the sums taken
-    pub prepared : {parts : List ℕ} {words room closing : ℕ} → Parted kept (r .streams) parts → words ≡ total (of kept) (r .streams)
+    pub prepared : {words room closing : ℕ} → words ≡ total (of kept) (r .streams)
         → room ≡ roomOf (r .streams - r .inputs) (total (of (r .roles)) (r .streams)) → closing ≡ most (of look) (r .streams)
         → Prepares s look kept (record {
           inputs = r .inputs;
@@ -81,13 +80,12 @@ module _ {s look kept : List ℕ} {r : Vouched} (v : Vouches s look kept r) wher
           types = r .types;
           roles = r .roles;
           starts = r .starts;
-          parts = parts;
           order = r .order;
           words = words;
           room = room;
           closing = closing;
         })
-    prepared a b c d =
+    prepared b c d =
         record {
           accepted = ap (λ (x : Checked). x .number) accepts;
           look-is = ap (λ (x : Checked). x .look) accepts ∙ look-announced s t (v .decodes) look kept (v .certified) look-long kept-long;
@@ -105,6 +103,5 @@ module _ {s look kept : List ℕ} {r : Vouched} (v : Vouches s look kept r) wher
           types-are = v .types-are;
           roles-are = v .roles-are;
           starts-are = v .starts-are;
-          parts-are = a;
           ordered = v .ordered;
         }

@@ -1,3 +1,4 @@
 pub mod Layouts
 pub mod Places
+pub mod Frames
 pub mod Clearing

@@ -1,9 +1,12 @@
--- The lent store (document 01, "A run"): its layout, and what the functions over it answer. `types`, `kept` and `parts` hold a number for
+-- The lent store (document 01, "A run"): its layout, and what the functions over it answer. `types`, `look` and `kept` hold a number for
 -- each stream, q is a position. Assumes nothing.
-use Prim.Native.Nat.{ℕ, _+_, _%_, _≤_, _<_}
+use Prim.Native.Nat.{ℕ, _+_, _-_, _%_, _≤_, _<_, _^_, min}
 use mathlib.Core.Path.{_≡_}
+use mathlib.Core.Bool.{cond}
 use mathlib.Core.List.{List, _++_}
+use lib.Dec.{ltb}
 use lib.ListN.{getD, drop, replicate}
+use Rattle.basis.specs.Rows.{entry, Shaped}
 use Rattle.basis.specs.Firsts.{of}
 use Rattle.limits.specs.Limits.{mostStreams}
 use Rattle.value.specs.declared.Value.{Value}
@@ -44,12 +47,82 @@ wordOf kept st v q = wordsOf (of kept) .read st v (slotOf kept v q)
 abbrev pub clearedOf : (words : ℕ) → List ℕ → List ℕ
 clearedOf words st = replicate words 0 ++ drop words st
 
--- "The store holds one part for each stream, in stream order, as long as its kept number": where `parts` says
-abbrev pub Parted : (kept : List ℕ) (streams : ℕ) (parts : List ℕ) → Type 0
-Parted kept streams parts = (v : ℕ) → v < streams → getD parts v 0 ≡ base (of kept) v
+-- The frame of a turn, rows of four numbers: the entries of a stream's row, and the row of the turn.
+abbrev pub lapEntry : ℕ
+lapEntry = 0
 
--- v's part is where `parts` says, and a store of n words holds it
-pub record PartIn (kept parts : List ℕ) (n v : ℕ) : Type 0 where
-  pub some : 0 < getD kept v 0
-  pub start : getD parts v 0 ≡ base (of kept) v
-  pub within : getD parts v 0 + getD kept v 0 ≤ n
+abbrev pub partEntry : ℕ
+partEntry = 1
+
+abbrev pub keptEntry : ℕ
+keptEntry = 2
+
+abbrev pub typeEntry : ℕ
+typeEntry = 3
+
+abbrev pub frameEntries : ℕ
+frameEntries = 4
+
+abbrev pub turnRow : ℕ
+turnRow = mostStreams
+
+abbrev pub knownEntry : ℕ
+knownEntry = 0
+
+abbrev pub positionEntry : ℕ
+positionEntry = 1
+
+abbrev pub frameRows : ℕ
+frameRows = mostStreams + 1
+
+-- the newest position that turn t has of v, where n rows are known: "that turn less [its] look-ahead", or the last one of the trace
+abbrev pub newestOf : (look : List ℕ) (n t v : ℕ) → ℕ
+newestOf look n t v = min (t - of look v) (n - 1)
+
+-- The first rows of a frame of turn t, where n rows are known. Of each stream it has the lap, which is the newest position less its slot, and
+-- where its part starts: "The store holds one part for each stream, in stream order, as long as its kept number".
+pub record Laid (types look kept : List ℕ) (streams n t : ℕ) (frame : List (List ℕ)) : Type 0 where
+  pub shape : Shaped frameRows frameEntries frame
+  pub laps : (v : ℕ) → v < streams → of look v ≤ t → entry frame v lapEntry ≡ newestOf look n t v - newestOf look n t v % of kept v
+  pub parts : (v : ℕ) → v < streams → entry frame v partEntry ≡ base (of kept) v
+  pub keeps : (v : ℕ) → v < streams → entry frame v keptEntry ≡ of kept v
+  pub typed : (v : ℕ) → v < streams → entry frame v typeEntry ≡ of types v
+  pub narrow : (v : ℕ) → v < streams → (entry frame v partEntry + entry frame v keptEntry < 2 ^ 32) × (entry frame v typeEntry < 256)
+
+-- a frame of turn t
+pub record Framed (types look kept : List ℕ) (streams n t : ℕ) (frame : List (List ℕ)) : Type 0 where
+  pub laid : Laid types look kept streams n t frame
+  pub known : entry frame turnRow knownEntry ≡ n
+
+-- the word for the position q of v by the frame's numbers: a position before the lap has its slot in the lap before
+unfoldable pub placeIn : (frame : List (List ℕ)) (v q : ℕ) → ℕ
+placeIn frame v q =
+    let lap = entry frame v lapEntry in
+    cond (ltb q lap) (entry frame v keptEntry - (lap - q)) (q - lap) + entry frame v partEntry
+
+-- the position q of v is near the lap, so that the frame has a word of v's part for it
+pub record Placeable (frame : List (List ℕ)) (v q : ℕ) : Type 0 where
+  pub stream : v < mostStreams
+  pub shape : Shaped frameRows frameEntries frame
+  pub near : (entry frame v lapEntry ≤ q + entry frame v keptEntry) × (q < entry frame v lapEntry + entry frame v keptEntry)
+  pub small : entry frame v partEntry + entry frame v keptEntry < 2 ^ 32
+
+-- and a store of n words has that word
+pub record Findable (frame : List (List ℕ)) (n v q : ℕ) : Type 0 where
+  pub placeable : Placeable frame v q
+  pub within : entry frame v partEntry + entry frame v keptEntry ≤ n
+  pub typed : entry frame v typeEntry < 256
+
+-- q is a position of v that the store holds in turn t, where n rows are known
+pub record Within (look kept : List ℕ) (n t v q : ℕ) : Type 0 where
+  pub inside : q < n
+  pub come : q + of look v ≤ t
+  pub stays : t < q + of look v + of kept v
+
+-- what laying a frame needs
+pub record CanLay (kept : List ℕ) (streams n : ℕ) (frame : List (List ℕ)) : Type 0 where
+  pub few : streams ≤ mostStreams
+  pub some : (v : ℕ) → v < streams → 0 < of kept v
+  pub row : 0 < n
+  pub rows : n < 2 ^ 32
+  pub shape : Shaped frameRows frameEntries frame

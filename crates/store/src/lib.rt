@@ -1,73 +1,87 @@
-// The lent store (document 01, "A run"): all code that reads or writes its words. `types`, `kept` and `parts` hold a number for each of the
-// 32 streams, 0 past the last; `parts` says where each part starts. It assumes nothing.
+// The lent store (document 01, "A run"): all code that reads or writes its words. `types`, `look` and `kept` hold a number for each of the
+// 32 streams, 0 past the last. It assumes nothing.
 ghost use mathlib.Core.Path.{_≡_};
-ghost use Prim.Native.Nat.{_+_, _%_, _≤_, _<_};
-ghost use lib.ListN.{length, getD};
-ghost use Rattle.basis.specs.Firsts.{of};
-ghost use Rattle.limits.specs.Limits.{mostStreams, mostWords};
-ghost use Rattle.run.specs.Words.{base};
-ghost use Rattle.store.specs.Store.{PartIn, Parted, heldOf, writtenOf, wordOf, clearedOf};
+ghost use Prim.Native.Nat.{_%_, _≤_, _<_};
+ghost use lib.ListN.{length, getD, set};
+ghost use Rattle.basis.specs.Rows.{entry};
+ghost use Rattle.value.specs.Values.{readingOf, imageOf};
+ghost use Rattle.store.specs.Store.{typeEntry, Placeable, Findable, placeIn, clearedOf, CanLay, Framed};
 use limits::STREAMS_MOST;
 use value::Value;
 
-// The word for the position q of the stream v: "the value for position p lies in word p mod n of its part".
-fn place(kept: &[u16; STREAMS_MOST], parts: &[u16; STREAMS_MOST], v: usize, q: u64) -> usize
-    requires { ⌜ (v < mostStreams) × (0 < getD (now kept) v 0) ⌝ }
-    ensures { λ r. ⌜ r ≡ getD (now (parts .entry)) v 0 + q % getD (now (kept .entry)) v 0 ⌝ }
+// What a turn needs of each stream is worked out once: a frame, with a row for each stream. The lap is the newest position that the turn has
+// of the stream less that position's slot, so that no slot needs a division.
+const LAP: usize = 0;
+
+const PART: usize = 1;
+
+const KEPT: usize = 2;
+
+pub const TYPE: usize = 3;
+
+pub const FRAME_ENTRIES: usize = 4;
+
+// The row of the turn: the rows known, and the position of the equation that is evaluated.
+pub const TURN: usize = STREAMS_MOST;
+
+pub const KNOWN: usize = 0;
+
+pub const POSITION: usize = 1;
+
+pub const FRAME_ROWS: usize = STREAMS_MOST + 1;
+
+// "word p mod n of its part". A division takes longer than the test.
+fn slot_of(q: u32, n: u32) -> u32
+    requires { ⌜ 0 < n ⌝ }
+    ensures { λ r. ⌜ r ≡ q % n ⌝ }
 {
-    let n = wire::short_wide(kept[v]);
-    let first = wire::short_wide(parts[v]);
-    (first + q % n) as usize
+    if n == 1 { 0 } else { q % n }
+}
+
+// The word for the position q of the stream v: a position before the lap has its slot in the lap before.
+fn place(frame: &[[u32; FRAME_ENTRIES]; FRAME_ROWS], v: usize, q: u32) -> usize
+    requires { ⌜ Placeable (now frame) v q ⌝ }
+    ensures { λ r. ⌜ r ≡ placeIn (now (frame .entry)) v q ⌝ }
+{
+    let lap = frame[v][LAP];
+    let slot = if q < lap {
+        frame[v][KEPT] - (lap - q)
+    } else {
+        q - lap
+    };
+    (slot + frame[v][PART]) as usize
 }
 
 // The value of the stream v for the position q.
-pub fn read(
-    store: &[u32],
-    types: &[u8; STREAMS_MOST],
-    kept: &[u16; STREAMS_MOST],
-    parts: &[u16; STREAMS_MOST],
-    v: usize,
-    q: u64,
-) -> Value
-    requires { ⌜ (v < mostStreams) × PartIn (now kept) (now parts) (length (now store)) v ⌝ }
-    ensures { λ r. ⌜ r ≡ heldOf (now (types .entry)) (now (kept .entry)) (now (store .entry)) v q ⌝ }
+pub fn read(store: &[u32], frame: &[[u32; FRAME_ENTRIES]; FRAME_ROWS], v: usize, q: u32) -> Value
+    requires { ⌜ Findable (now frame) (length (now store)) v q ⌝ }
+    ensures { λ r. ⌜ r ≡ readingOf (entry (now (frame .entry)) v typeEntry) (getD (now (store .entry)) (placeIn (now (frame .entry)) v q) 0) ⌝ }
 {
-    let i = place(kept, parts, v, q);
-    value::reading(types[v], store[i])
+    value::reading(frame[v][TYPE] as u8, store[place(frame, v, q)])
 }
 
-// Puts the value x of the stream v for the position q; `types` is the layout's. The image comes first, since the other order costs two
-// instructions a value.
+// Puts the value x of the stream v for the position q. The image comes first, since the other order costs two instructions a value.
 pub fn write(
     store: &mut [u32],
-    types: &[u8; STREAMS_MOST],
-    kept: &[u16; STREAMS_MOST],
-    parts: &[u16; STREAMS_MOST],
+    frame: &[[u32; FRAME_ENTRIES]; FRAME_ROWS],
     v: usize,
-    q: u64,
+    q: u32,
     x: Value,
 )
-    requires { ⌜ (v < mostStreams) × PartIn (now kept) (now parts) (length (now store)) v ⌝ }
-    ensures { λ _. ⌜ now (store .exit) ≡ writtenOf (now (types .entry)) (now (kept .entry)) (now (store .entry)) v q x ⌝ }
+    requires { ⌜ Findable (now frame) (length (now store)) v q ⌝ }
+    ensures { λ _. ⌜ now (store .exit) ≡ set (now (store .entry)) (placeIn (now (frame .entry)) v q) (imageOf x) ⌝ }
 {
     let w = value::image(x);
-    let i = place(kept, parts, v, q);
+    let i = place(frame, v, q);
     store[i] = w;
 }
 
 // The word that the store has of the stream v for the position q.
-pub fn word(
-    store: &[u32],
-    kept: &[u16; STREAMS_MOST],
-    parts: &[u16; STREAMS_MOST],
-    v: usize,
-    q: u64,
-) -> u32
-    requires { ⌜ (v < mostStreams) × PartIn (now kept) (now parts) (length (now store)) v ⌝ }
-    ensures { λ r. ⌜ r ≡ wordOf (now (kept .entry)) (now (store .entry)) v q ⌝ }
+pub fn word(store: &[u32], frame: &[[u32; FRAME_ENTRIES]; FRAME_ROWS], v: usize, q: u32) -> u32
+    requires { ⌜ Findable (now frame) (length (now store)) v q ⌝ }
+    ensures { λ r. ⌜ r ≡ getD (now (store .entry)) (placeIn (now (frame .entry)) v q) 0 ⌝ }
 {
-    let i = place(kept, parts, v, q);
-    store[i]
+    store[place(frame, v, q)]
 }
 
 // "Opening puts 0 into exactly the announced store words."
@@ -82,17 +96,38 @@ pub fn clear(store: &mut [u32], words: usize)
     }
 }
 
-// Where the part of each stream starts: behind the kept values of the streams before it.
-pub fn parts_of(kept: &[u16; STREAMS_MOST], streams: usize, parts: &mut [u16; STREAMS_MOST])
-    requires { ⌜ (streams ≤ mostStreams) × (base (of (now kept)) streams ≤ mostWords) ⌝ }
-    ensures { λ _. ⌜ Parted (now (kept .entry)) streams (now (parts .exit)) ⌝ }
+// The frame of turn t, where `known` rows are known. The running sum of the kept numbers is where a part starts.
+pub fn lay(
+    types: &[u8; STREAMS_MOST],
+    look: &[u16; STREAMS_MOST],
+    kept: &[u16; STREAMS_MOST],
+    streams: usize,
+    known: u64,
+    t: u64,
+    frame: &mut [[u32; FRAME_ENTRIES]; FRAME_ROWS],
+)
+    requires { ⌜ CanLay (now kept) streams known (now frame) ⌝ }
+    ensures { λ _. ⌜ Framed (now (types .entry)) (now (look .entry)) (now (kept .entry)) streams known t (now (frame .exit)) ⌝ }
 {
-    *parts = [0u16; STREAMS_MOST];
-    let mut next = 0;
+    let mut part = 0;
     let mut v = 0;
     while v < streams {
-        parts[v] = next;
-        next += kept[v];
+        let ahead = wire::short_wide(look[v]);
+        let n = wire::short_word(kept[v]);
+        if ahead <= t {
+            let p = if t < known + ahead {
+                t - ahead
+            } else {
+                known - 1
+            };
+            let newest = p as u32;
+            frame[v][LAP] = newest - slot_of(newest, n);
+        }
+        frame[v][PART] = part;
+        frame[v][KEPT] = n;
+        frame[v][TYPE] = wire::byte_word(types[v]);
+        part += n;
         v += 1;
     }
+    frame[TURN][KNOWN] = known as u32;
 }

@@ -1,23 +1,25 @@
 -- The equations, one after the other, and what holds of those that are read.
 -- Assumes nothing.
-use mathlib.Core.Path.{_≡_, refl, sym, ap, subst}
+use mathlib.Core.Path.{_≡_, refl, sym, ap}
 use mathlib.Core.List.{List, [], _∷_, _++_, append-assoc, append-nil}
-use Prim.Native.Nat.{ℕ, zero, suc, _+_, _-_, _≤_, _<_}
+use mathlib.Core.Logic.{⊎-elim}
+use Prim.Native.Nat.{ℕ, zero, suc, _+_, _-_, _*_, _/_, _%_, _≤_, _<_}
 use native.Mathlib.Omega.{arith}
 use native.Mathlib.Numerals.{add-one}
 use native.Mathlib.Nat.{pos-of-ne-zero}
-use borrow.Author.Tests.{eqb-true, eqb-false}
+use borrow.Author.Tests.{eq-eqb, ne-eqb, eqb-true, eqb-false}
 use lib.Dec.{eqb}
 use lib.ListN.{length, getD, take, set, replicate}
 use lib.Seq.{take-suc-set}
-use Rattle.limits.specs.Limits.{mostStreams, mostLevels}
-use Rattle.expression.specs.declared.Scanned.{Scanned}
-use Rattle.expression.specs.declared.Scanned.the-variants.{Ends, Refused}
+use Rattle.limits.specs.Limits.{mostTable, mostStreams, mostLevels}
+use Rattle.basis.specs.Rows.{entry}
+use Rattle.basis.proofs.Tests.{lt-or-ge}
 use Rattle.expression.specs.Syntax.{Expr}
 use Rattle.expression.specs.Grammar.{Parsed, good, bad, parse}
 use Rattle.table.proofs.Arrays.{zeros-front}
-use Rattle.expression.specs.References.{Scans}
-use Rattle.expression.proofs.Scan.{scan-ended, scan-refused}
+use Rattle.expression.specs.Seen.{seenType, Seen}
+use Rattle.expression.specs.Scanning.{places, Scanning}
+use Rattle.expression.proofs.Scan.{scans-bad, scan-ended, scan-refused}
 use Rattle.expression.proofs.Sound.{bad-blamed}
 use Rattle.table.proofs.Faults.{equation-room, equation-low}
 use Rattle.table.proofs.Streams.{fine-case}
@@ -46,6 +48,23 @@ equation-sound ts s y at =
     go : at + 2 ≤ length s → (x : Parsed) → parse mostLevels ts s (getD ts y 0) (at + 2) ≡ x → EquationSound ts s y at x
     go h (good e m) q = record { end = m; parsed = q; starts = h }
     go h (bad why place) q = omega (arith, bad-blamed ts s mostLevels (getD ts y 0) (at + 2) q .number)
+
+-- ---- one equation, as it is scanned
+
+-- the type in y's row is the type of y, over whatever streams these are the rows of
+pub wanted-type : {types ts : List ℕ} {seen : List (List ℕ)} (y : ℕ) → Seen types seen → y < length types → getD types y 0 < 3 → Seen ts seen → entry seen y seenType ≡ getD ts y 0
+wanted-type {types} {ts} y a l w b = ⊎-elim (b .types y) (λ g. absurd (omega (arith, a .types y l, a .few, b .past y g (omega (arith, l, a .few))))) (lt-or-ge y (length ts))
+
+module _ (s : List ℕ) (y at : ℕ) {f : ℕ} (p : f ≡ equationFault s at y) {ts : List ℕ} {seen seen′ : List (List ℕ)} where
+  pub equation-scanned : {w r : ℕ} → w ≡ getD ts y 0 → f ≡ 0 → Scanning (parse mostLevels ts s w (at + 2)) s ts seen seen′ r → Scanning (equationAt ts s y at) s ts seen seen′ r
+  unfolding equationAt
+  equation-scanned e z x = rw (← p, eq-eqb _ _ z, ← e) x
+
+  pub equation-refused : (f ≡ 0 → ⊥) → at ≤ length s → Seen ts seen′ → Scanning (equationAt ts s y at) s ts seen seen′ (f * places + at)
+  unfolding equationAt
+  equation-refused z h l =
+      let e : equationAt ts s y at ≡ bad f at = rw (← p, ne-eqb _ _ z) in
+      scans-bad e (pos-of-ne-zero z) (omega (arith, p, equation-low s at y)) h l
 
 -- the equations from that of the stream y on
 pub data EquationsFit (ts s : List ℕ) : ℕ → List Equation → Type 0 where
@@ -98,17 +117,25 @@ module _ (ts s : List ℕ) (at y n : ℕ) where
   unfolding solvedOf startsOf
   equations-end l h = rw (no-equation h, append-nil l)
 
-  module _ {o : Scanned} {rise fall rise′ fall′ : List ℕ} (h : y < n) (x : Scans (equationAt ts s y at) rise fall rise′ fall′ o) where
-    pub equations-wrong : (l : List ℕ) {why place : ℕ} → o ≡ Refused why place → solvedOf l (equationsAt (n - y) y ts s at) ≡ record { number = why; place = place; starts = replicate mostStreams 0 }
+  module _ {r : ℕ} {seen seen′ : List (List ℕ)} (short : length s ≤ mostTable) (h : y < n) (x : Scanning (equationAt ts s y at) s ts seen seen′ r) where
+    -- a fault's number is a byte
+    pub refused-byte : places ≤ r → r < 256 * places
+    refused-byte q = let f = scan-refused short x q in omega (arith, f .is, f .few, f .within)
+
+    pub equations-wrong : (l : List ℕ) {why place : ℕ} → places ≤ r → why ≡ r / places → place ≡ r % places → solvedOf l (equationsAt (n - y) y ts s at) ≡ record { number = why; place = place; starts = replicate mostStreams 0 }
     unfolding solvedOf
-    equations-wrong l q = rw (wrong-equation h (scan-refused x q))
+    equations-wrong l {why} {place} q a b =
+        let f = scan-refused short x q in
+        let w : f .why ≡ why = omega (arith, f .is, f .within) in
+        let p : f .place ≡ place = omega (arith, f .is, f .within) in
+        rw (wrong-equation h (f .parsed), w, p)
 
-    pub equations-more : (starts : List ℕ) {m : ℕ} → y < length starts → o ≡ Ends m
-        → solvedOf (take (y + 1) (set starts y (at + 2))) (equationsAt (n - (y + 1)) (y + 1) ts s m) ≡ solvedOf (take y starts) (equationsAt (n - y) y ts s at)
-    equations-more starts {m} g q =
-        let r = scan-ended x q in
-        rw (one-equation h (r .parsed), add-one y, take-suc-set starts y (at + 2))
-        (sym (solved-joined (take y starts) (record { start = at + 2; expr = r .expr }) (equationsAt (n - suc y) (suc y) ts s m)))
+    pub equations-more : (starts : List ℕ) → y < length starts → r < places
+        → solvedOf (take (y + 1) (set starts y (at + 2))) (equationsAt (n - (y + 1)) (y + 1) ts s r) ≡ solvedOf (take y starts) (equationsAt (n - y) y ts s at)
+    equations-more starts g q =
+        let e = scan-ended short x q in
+        rw (one-equation h (e .parsed), add-one y, take-suc-set starts y (at + 2))
+        (sym (solved-joined (take y starts) (record { start = at + 2; expr = e .expr }) (equationsAt (n - suc y) (suc y) ts s r)))
 
-    pub read-room : {m : ℕ} → o ≡ Ends m → at + 2 ≤ length s
-    read-room q = subst (EquationSound ts s y at) (scan-ended x q .parsed) (equation-sound ts s y at) .starts
+    pub read-behind : r < places → r ≤ length s
+    read-behind q = scan-ended short x q .behind

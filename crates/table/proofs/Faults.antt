@@ -11,8 +11,27 @@ use lib.ListN.{length, getD}
 use Rattle.limits.specs.Limits.{mostStreams}
 use Rattle.limits.specs.Refusals.{wrongField, tooDeep}
 use Rattle.basis.proofs.Tests.{pick-case}
+use Rattle.node.specs.Kinds.{ruleOf, rows, look}
 use Rattle.node.specs.Node.{first}
 use Rattle.table.specs.Records.{recordFault, typeRule, roleRule, headFault, inputFault, outputFault, equationFault, sideOf, streamFault, roleAt}
+
+-- ---- the bodies of these records, in the constant table by kind
+
+pub edition-body : ruleOf 1 .body ≡ 3
+unfolding ruleOf rows look
+edition-body = refl
+
+pub input-body : ruleOf 2 .body ≡ 1
+unfolding ruleOf rows look
+input-body = refl
+
+pub output-body : ruleOf 3 .body ≡ 2
+unfolding ruleOf rows look
+output-body = refl
+
+pub equation-body : ruleOf 4 .body ≡ 1
+unfolding ruleOf rows look
+equation-body = refl
 
 -- ---- the first of two faults
 

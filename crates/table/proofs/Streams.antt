@@ -8,13 +8,14 @@ use native.Mathlib.Omega.{arith}
 use native.Mathlib.Numerals.{add-one}
 use native.Mathlib.Nat.{pos-of-ne-zero}
 use borrow.Author.Tests.{eq-eqb, ne-eqb, eqb-true, eqb-false, leb-true}
-use lib.Dec.{eqb, leb}
+use lib.Dec.{eqb, leb, ltb}
 use lib.ListN.{length, getD, take, set}
 use lib.Seq.{take-suc-set}
 use Rattle.limits.specs.Limits.{leastTable, mostTable}
+use Rattle.basis.proofs.Tests.{pick-case}
 use Rattle.table.specs.Records.{headFault, sideOf, streamFault, roleAt, behind, ifFine, Declared, declares, wrong, before, declared, heads}
 use Rattle.table.specs.Sound.{RecordRefusal}
-use Rattle.table.proofs.Faults.{HeadFits, head-fits, head-low, StreamFits, stream-fits, stream-low, input-role}
+use Rattle.table.proofs.Faults.{HeadFits, head-fits, head-low, head-room, StreamFits, stream-fits, stream-low, stream-room, input-role}
 
 before-before : (ts rs us qs : List ℕ) (d : Declared) → before ts rs (before us qs d) ≡ before (ts ++ us) (rs ++ qs) d
 before-before ts rs us qs (declares vs ps n) = ap₂ (λ (l m : List ℕ). declares l m n) (sym (append-assoc ts us vs)) (sym (append-assoc rs qs ps))
@@ -109,3 +110,36 @@ heads-fit s =
     (λ p. (pos-of-ne-zero (eqb-false _ _ p), head-low s)))
     (λ _. omega arith))
     (λ _. omega arith)
+
+-- ---- the place behind them lies in the table
+
+abbrev pub EndsWithin : ℕ → Declared → Type 0
+EndsWithin n (declares ts rs m) = m ≤ n
+EndsWithin n (wrong why place) = Unit {0}
+
+within-before : (n : ℕ) (ts rs : List ℕ) (d : Declared) → EndsWithin n d → EndsWithin n (before ts rs d)
+within-before n ts rs (declares us qs m) h = h
+within-before n ts rs (wrong why place) h = tt
+
+side-low : (i v : ℕ) → sideOf i v ≤ 1
+unfolding sideOf
+side-low i v = pick-case (λ (n : ℕ). n ≤ 1) (ltb v i) 0 1 (λ _. omega arith) (λ _. omega arith)
+
+declared-within : (n i v : ℕ) (s : List ℕ) (at : ℕ) → at ≤ length s → EndsWithin (length s) (declared n i v s at)
+unfolding declared
+declared-within zero i v s at h = h
+declared-within (suc n) i v s at h =
+    fine-case (EndsWithin (length s)) (eqb (streamFault (sideOf i v) s at) 0) _ _
+    (λ p. within-before (length s) _ _ (declared n i (v + 1) s (behind (sideOf i v) at)) (declared-within n i (v + 1) s (behind (sideOf i v) at) (stream-room (sideOf i v) s at (side-low i v) (eqb-true _ _ p))))
+    (λ _. tt)
+
+pub heads-within : (s : List ℕ) → EndsWithin (length s) (heads s)
+unfolding heads
+heads-within s =
+    fine-case (EndsWithin (length s)) (leb leastTable (length s)) _ _
+    (λ _. fine-case (EndsWithin (length s)) (leb (length s) mostTable) _ _
+    (λ _. fine-case (EndsWithin (length s)) (eqb (headFault s) 0) _ _
+    (λ p. declared-within (getD s 2 0 + getD s 3 0) (getD s 2 0) 0 s 4 (head-room s (eqb-true _ _ p)))
+    (λ _. tt))
+    (λ _. tt))
+    (λ _. tt)

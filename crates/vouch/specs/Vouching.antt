@@ -1,23 +1,20 @@
 -- When a record's numbers are vouched for against a table's bytes (document 01, "What the check announces" and "A run").
 -- Assumes nothing.
-use Prim.Native.Nat.{ℕ, _≤_, _<_}
+use Prim.Native.Nat.{ℕ, _≤_}
 use mathlib.Core.Path.{_≡_}
 use mathlib.Core.Bool.{Bool, true, false}
 use mathlib.Core.List.{List, _++_}
-use lib.ListN.{getD, replicate}
+use lib.ListN.{length, replicate}
 use Rattle.basis.specs.Firsts.{of}
 use Rattle.limits.specs.Limits.{mostStreams, mostWords}
-use Rattle.basis.specs.Sums.{total}
+use Rattle.basis.specs.Sums.{total, most}
 use Rattle.basis.specs.Edges.{among}
+use Rattle.numbers.specs.Past.{ZeroPast}
 use Rattle.walks.specs.Walks.{Right}
 use Rattle.table.specs.Table.{Table, decoded, decode, streams, edges}
 use Rattle.table.specs.Answers.{padded, startsOf}
 use Rattle.certificate.specs.Certificate.{Ordered}
 use Rattle.vouch.specs.declared.Found.{Found}
-
--- "(0 past S)"
-abbrev pub ZeroPast : List ℕ → ℕ → Type 0
-ZeroPast numbers s = (v : ℕ) → s ≤ v → v < mostStreams → getD numbers v 0 ≡ 0
 
 -- what a record's numbers must be whatever the edges: "(0 past S)", and "store at most 4,096 words", the store words being "the sum of kept values"
 pub record Bounded (look kept : List ℕ) (s : ℕ) : Type 0 where
@@ -59,3 +56,16 @@ pub record Vouches (s look kept : List ℕ) (r : Vouched) : Type 0 where
 abbrev pub Verdict : Bool → List ℕ → List ℕ → List ℕ → Vouched → Type 0
 Verdict true s look kept r = Vouches s look kept r
 Verdict false s look kept r = (t : Table) → decode s ≡ decoded t → Certified t look kept → ⊥
+
+-- arrays that nothing was written into yet
+pub record Blank (types roles starts order : List ℕ) : Type 0 where
+  pub no-types : types ≡ replicate mostStreams 0
+  pub no-roles : roles ≡ replicate mostStreams 0
+  pub no-starts : starts ≡ replicate mostStreams 0
+  pub order-long : length order ≡ mostStreams
+
+-- the sums of the record's numbers, and of the triggers, where they are vouched for
+pub record Summed (r : Found) (look kept roles : List ℕ) : Type 0 where
+  pub words-sum : r .ok ≡ true → r .words ≡ total (of kept) (r .streams)
+  pub triggers-sum : r .ok ≡ true → r .triggers ≡ total (of roles) (r .streams)
+  pub closing-most : r .ok ≡ true → r .closing ≡ most (of look) (r .streams)

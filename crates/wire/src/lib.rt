@@ -42,6 +42,12 @@ pub fn word_of(a: u8, b: u8, c: u8, d: u8) -> u32
 }
 
 // A number of 8, 16 or 32 bits made wider: the same number, with the bound that its type gave.
+pub fn byte_short(x: u8) -> u16
+    ensures { λ r. ⌜ (r ≡ x) × (r < 256) ⌝ }
+{
+    x as u16
+}
+
 pub fn byte_word(x: u8) -> u32
     ensures { λ r. ⌜ (r ≡ x) × (r < 256) ⌝ }
 {

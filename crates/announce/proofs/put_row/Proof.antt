@@ -1,43 +1,31 @@
 -- `put_row`: the loop has written the first v numbers of the row.
 -- Assumes nothing.
+use mathlib.Core.Path.{sym}
 use Prim.Native.Nat.{_-_, _≤_}
 use native.Mathlib.Omega.{arith}
 use borrow.Author.Needs.{needs}
 use Rattle.limits.specs.Limits.{mostStreams}
+use Rattle.basis.specs.Rows.{column}
+use Rattle.basis.proofs.Rows.{column-at}
 use Rattle.announce.proofs.Rows.{RowBegun, none-begun, one-more, row-put}
 use Rattle.announce.proofs.put_row.Statement.{statement}
 use Rattle.announce.proofs.put_row.Tie as tie
 
 abbrev Inv-loop : tie.InvT-loop
-Inv-loop all₀ y row v₀ all v = (v ≤ mostStreams) × RowBegun all₀ y row v all
+Inv-loop all₀ y seen i v₀ all v = (v ≤ mostStreams) × RowBegun all₀ y (column i seen) v all
 
 abbrev μ-loop : tie.MeasureT-loop
-μ-loop all₀ y row v₀ all v = mostStreams - v
+μ-loop all₀ y seen i v₀ all v = mostStreams - v
 
 loop-holds : tie.Need-loop-holds Inv-loop μ-loop
 loop-holds c = (search needs, none-begun)
 
-mul-all : tie.Need-mul-all Inv-loop μ-loop
-mul-all c = omega arith
-
-element-copy-out-all : tie.Need-element-copy-out-all Inv-loop μ-loop
-element-copy-out-all c = omega arith
-
-mul-all-2 : tie.Need-mul-all-2 Inv-loop μ-loop
-mul-all-2 c = omega arith
-
-add-all : tie.Need-add-all Inv-loop μ-loop
-add-all c = omega arith
-
-mul-all-3 : tie.Need-mul-all-3 Inv-loop μ-loop
-mul-all-3 c = omega arith
-
 element-write-all : tie.Need-element-write-all Inv-loop μ-loop
-element-write-all c = omega arith
+element-write-all c = omega (arith, c .before .before .loop .inv .1 .size, c .before .before .before .pre .1, c .before .before .before .pre .0, c .before .loop-test .taken)
 
 loop-again : tie.Need-loop-again Inv-loop μ-loop
 loop-again c =
-    (search needs, one-more (c .before .before .loop .inv .1) (omega (arith, c .before .before .loop .inv .1 .size, c .before .before .before .pre .1)))
+    (search needs, one-more (c .before .before .loop .inv .1) (omega (arith, c .before .before .loop .inv .1 .size, c .before .before .before .pre .1, c .before .before .before .pre .0, c .before .loop-test .taken)) (sym (column-at _ (c .before .before .before .args .seen .now) _)))
 
 returns : tie.Need-returns Inv-loop μ-loop
 returns c = row-put (omega arith) (c .before .loop .inv .1)
@@ -49,11 +37,13 @@ put-row-spec =
     Inv-loop
     μ-loop
     loop-holds
-    mul-all
-    element-copy-out-all
-    mul-all-2
-    add-all
-    mul-all-3
+    (λ c. omega arith)
+    (λ c. omega arith)
+    (λ c. omega arith)
+    (λ c. omega arith)
+    (λ c. omega arith)
+    (λ c. omega arith)
+    (λ c. omega arith)
     element-write-all
     (λ c. search needs)
     (λ c. search needs)

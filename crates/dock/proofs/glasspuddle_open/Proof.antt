@@ -25,3 +25,4 @@ glasspuddle-open-spec 𝓤 H 𝓜 𝓖 𝓡 =
     𝓤 H 𝓜 𝓖 𝓡 code.env key.name code.function callee-def.name (code.unfolded 𝓤 H 𝓜 𝓡) (λ κs d a are. refl)
     (λ κs qs d a are. cited 𝓤 H (tripleOf 𝓤 H (𝓖 .A) callee.signature (callee.spec 𝓤 H (𝓖 .A) (𝓜 .mem) (𝓡 .run))) 𝓜 𝓡 code.env callee-def.name callee-def.routine code.calls-dock·opened (callee-thm.met 𝓤 H 𝓜 𝓖 𝓡)
     ((κs .1, qs .1, tt, a, ValsOf slices κs a), tt))
+    (λ κs d a. tt)

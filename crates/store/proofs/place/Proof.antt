@@ -1,16 +1,17 @@
--- `store::place` meets its contract: the sum of the part's start and the position's remainder fits a word of the machine.
+-- `store::place` meets its contract: the slot in the lap, or in the lap before.
 -- Assumes nothing.
+use mathlib.Core.Logic.{⊎-elim}
 use borrow.Author.Needs.{needs}
-use native.Mathlib.Omega.{arith}
-use Rattle.store.proofs.Places.{place-small, place-from}
+use Rattle.store.proofs.Places.{place-before, place-from, place-small}
 use Rattle.store.proofs.place.Statement.{statement}
 use Rattle.store.proofs.place.Tie as tie
 
 add-result : tie.Need-add-result
-add-result c = record { fits = place-small _ (omega (arith, c .before .before .short-wide .ensures .0, c .before .before .before .before .pre .1)) (c .before .before .short-wide .ensures .1) (c .short-wide2 .ensures .1) }
+add-result c =
+    place-small (c .before .before .before .before .pre) (⊎-elim (λ w. place-before _ _ _ (w .2) (w .0 .taken)) (λ w. place-from _ _ _ (w .1) (w .0 .left)) (c .before .before .if1 .came))
 
 returns : tie.Need-returns
-returns c = place-from _ (c .before .before .short-wide .ensures .0) (c .short-wide2 .ensures .0)
+returns c = ⊎-elim (λ w. place-before _ _ _ (w .2) (w .0 .taken)) (λ w. place-from _ _ _ (w .1) (w .0 .left)) (c .before .before .if1 .came)
 
 pub place-spec : {M : Type 1} → statement M
 place-spec =
@@ -18,10 +19,15 @@ place-spec =
     (tie.spec
     (λ c. search needs)
     (λ c. search needs)
-    (λ c κs. search needs)
     (λ c. search needs)
     (λ c. search needs)
-    (λ c κs. search needs)
+    (λ c. search needs)
+    (λ c. search needs)
+    (λ c. search needs)
+    (λ c. search needs)
+    (λ c. search needs)
+    (λ c. search needs)
     (λ c. search needs)
     add-result
+    (λ c. search needs)
     returns)

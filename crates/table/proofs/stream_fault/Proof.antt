@@ -1,6 +1,5 @@
 -- `table::stream_fault` meets its contract.
 -- Assumes nothing.
-use borrow.Author.Needs.{needs}
 use mathlib.Core.Path.{_∙_}
 use borrow.Author.Tests.{eq-eqb, ne-eqb}
 use Rattle.table.specs.Records.{streamFault}
@@ -17,4 +16,4 @@ returns-2 c = c .output-fault .ensures ∙ simp (ne-eqb _ _ (c .before .if1 .lef
 
 pub stream-fault-spec : {M : Type 1} → statement M
 stream-fault-spec =
-    tie.close (tie.spec (λ c κs. search needs) (λ c κs. search needs) returns returns-2)
+    tie.close (tie.spec (λ c κs. c .before .before .pre) (λ c κs. c .before .before .pre) returns returns-2)

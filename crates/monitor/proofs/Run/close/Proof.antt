@@ -1,4 +1,4 @@
--- `close`: by a frame, or the record is not of the table.
+-- `close`: by a brief, or the record is not of the table.
 -- Assumes nothing.
 use mathlib.Core.Path.{sym, ap, _∙_}
 use Rattle.monitor.specs.Calls.{closedPhase}
