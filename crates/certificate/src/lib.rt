@@ -24,12 +24,13 @@ const RISE_OF_ZERO: u32 = limits::RISE_OF_ZERO as u32;
 
 const FALL_OF_ZERO: u32 = limits::FALL_OF_ZERO as u32;
 
-// The set with `v` put in where the test holds.
+// The set with `v` put in where the test holds. A bit that is shifted takes fewer instructions than a choice of two sets.
 fn mark(set: u32, v: usize, test: bool) -> u32
     requires { ⌜ v < mostStreams ⌝ }
     ensures { λ r. ⌜ r ≡ marked set v test ⌝ }
 {
-    if test { set | 1 << v } else { set }
+    let bit: u32 = if test { 1 } else { 0 };
+    set | bit << v
 }
 
 // The larger of `most` and of what `have` is above `want`.
@@ -146,10 +147,7 @@ fn numbers_agree(
 {
     let mut v = 0;
     while v < s {
-        if kept[v] == 0 {
-            return false;
-        }
-        if wire::short_word(kept[v]) - 1 != most[v] {
+        if wire::short_wide(kept[v]) != wire::word_wide(most[v]) + 1 {
             return false;
         }
         if look[v] != 0 {

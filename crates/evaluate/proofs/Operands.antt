@@ -87,6 +87,13 @@ module _ (types kept st : List ℕ) (n j : ℕ) where
 pub evaluates-as : (l : ℕ) (frame : List (List ℕ)) (st s : List ℕ) (place : ℕ) {r r' : Evaluated} → r ≡ r' → Evaluates l frame st s place r' → Evaluates l frame st s place r
 evaluates-as l frame st s place e h x = e ∙ h x
 
+-- the part of the store that an operand gets is all of it
+pub readable-on : {l : ℕ} {frame : List (List ℕ)} {s : List ℕ} {place : ℕ} {st held : List ℕ} → held ≡ st → Readable l frame (length st) s place → Readable l frame (length held) s place
+readable-on e x = rw e x
+
+pub evaluates-on : (l : ℕ) (frame : List (List ℕ)) (st s : List ℕ) (place : ℕ) {held : List ℕ} {r r' : Evaluated} → held ≡ st → r ≡ r' → Evaluates l frame held s place r' → Evaluates l frame st s place r
+evaluates-on l frame st s place e f h = evaluates-as l frame st s place f (rw e at h)
+
 -- the operator at a place where the grammar reads an expression
 module _ {l : ℕ} {frame : List (List ℕ)} (st : List ℕ) {s : List ℕ} {place : ℕ} (x : Readable l frame (length st) s place) (h : isLeaf (standing s place) ≡ false) where
   abbrev k : ℕ

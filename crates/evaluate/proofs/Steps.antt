@@ -19,7 +19,7 @@ use Rattle.lola.specs.Graph.{Edge, Occurs}
 use Rattle.run.specs.Turn.{due}
 use Rattle.meaning.specs.Expressions.{meaning}
 use Rattle.meaning.specs.Tables.{specIn}
-use Rattle.store.specs.Store.{readAs, writtenOf, placeIn, frameRows, frameEntries, Framed, Findable, Within, CanLay}
+use Rattle.store.specs.Store.{readAs, writtenOf, placeIn, lentIn, frameRows, frameEntries, Framed, Findable, Within, CanLay}
 use Rattle.store.proofs.Places.{findable, is-written}
 use Rattle.evaluate.specs.Evaluation.{positionIn, Held, Readable, valueIn, Evaluates}
 use Rattle.evaluate.specs.Turns.{Turnable}
@@ -55,8 +55,8 @@ module _ {s types look kept starts order : List ℕ} {inputs streams m : ℕ} (x
             };
           }
 
-      abbrev pub equation-readable : {i : ℕ} → inputs ≤ y → positionIn frame ≡ t - a → i ≡ getD starts y 0 → Readable mostLevels frame m s i
-      equation-readable o p e = record {
+      abbrev pub equation-readable : {i : ℕ} → inputs ≤ y → positionIn frame ≡ t - a → lentIn frame ≡ m → i ≡ getD starts y 0 → Readable mostLevels frame m s i
+      equation-readable o p lent e = record {
         turn = record {
           types = types;
           look = look;
@@ -69,6 +69,7 @@ module _ {s types look kept starts order : List ℕ} {inputs streams m : ℕ} (x
           fits = x .fits;
           framed = f;
           position = p;
+          lent = lent;
           inside = omega arith;
         };
         wanted = x .wanted y;
@@ -112,11 +113,11 @@ module _ (s types look kept starts order : List ℕ) (inputs streams : ℕ) (ws 
     pub input-written : {after : List ℕ} {v : Value} → y < inputs → v ≡ readAs types y (getD ws y 0) → after ≡ set st (placeIn frame y (t - a)) (imageOf v) → Steps after
     input-written {v = v} h e g = record { value = v; input = λ d k. e; output = λ d o. absurd (omega (arith, h, o)); after-is = written v g }
 
-    pub output-written : {after : List ℕ} {i : ℕ} {e : Evaluated} → inputs ≤ y → positionIn frame ≡ t - a → i ≡ getD starts y 0 → Evaluates mostLevels frame st s i e → after ≡ set st (placeIn frame y (t - a)) (imageOf (e .value)) → Steps after
-    output-written {i = i} {e} o p ei h g = record {
+    pub output-written : {after : List ℕ} {i : ℕ} {e : Evaluated} → inputs ≤ y → positionIn frame ≡ t - a → lentIn frame ≡ length st → i ≡ getD starts y 0 → Evaluates mostLevels frame st s i e → after ≡ set st (placeIn frame y (t - a)) (imageOf (e .value)) → Steps after
+    output-written {i = i} {e} o p lent ei h g = record {
       value = e .value;
       input = λ d k. absurd (omega (arith, k, o));
-      output = λ d o z. ap (λ (r : Evaluated). r .value) (h (equation-readable z n t y l ea early late f o p ei)) ∙ ap (λ (j : ℕ). valueIn types kept st n (t - j) (z .eqs y)) ea;
+      output = λ d o z. ap (λ (r : Evaluated). r .value) (h (equation-readable z n t y l ea early late f o p lent ei)) ∙ ap (λ (j : ℕ). valueIn types kept st n (t - j) (z .eqs y)) ea;
       after-is = written (e .value) g;
     }
 

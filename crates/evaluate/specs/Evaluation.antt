@@ -19,7 +19,7 @@ use Rattle.lola.specs.Expressions.{Ref, at, target, rise, fall}
 use Rattle.lola.specs.Graph.{Occurs}
 use Rattle.lola.specs.Models.{value, refer}
 use Rattle.meaning.specs.Expressions.{ops, meaning}
-use Rattle.store.specs.Store.{layoutOf, heldOf, typeEntry, turnRow, knownEntry, positionEntry, frameRows, frameEntries, placeIn, Framed, Findable, Within}
+use Rattle.store.specs.Store.{layoutOf, heldOf, typeEntry, turnRow, knownEntry, positionEntry, frameRows, frameEntries, lentIn, placeIn, Framed, Findable, Within}
 use Rattle.evaluate.specs.declared.Evaluated.{Evaluated}
 
 -- a word of v, and the value that the store has of v for the position q, by a frame's numbers
@@ -59,6 +59,7 @@ pub record InTurn (frame : List (List ℕ)) (m : ℕ) : Type 0 where
   pub fits : layoutOf types (of kept) .words ≤ m
   pub framed : Framed types look kept streams n t frame
   pub position : positionIn frame ≡ j
+  pub lent : lentIn frame ≡ m
   pub inside : j < n
 
 -- what a reference of an equation refers to from the position j is in the store, where it lies in the trace

@@ -85,7 +85,9 @@ fn leaf(
     }
 }
 
-// The operator at `at` and its operands, with `levels` levels left. An operand without operands of its own does not enter the recursion.
+// The operator at `at` and its operands, with `levels` levels left. An operand without operands of its own does not enter the recursion. The
+// store is handed on by the number of words lent that the frame has: as it came, its pointer and its length, which `turn` puts down one by one,
+// would be read as one, and each equation would wait until both have settled.
 fn eval(
     bytes: &[u8],
     kinds: &[[u8; ENTRIES]; KINDS_MOST],
@@ -97,30 +99,31 @@ fn eval(
     requires { ⌜ Tabulated (now kinds) × OperatorStands levels (now frame) (length (now store)) (now bytes) at ⌝ }
     ensures { λ r. ⌜ Evaluates levels (now (frame .entry)) (now (store .entry)) (now (bytes .entry)) at r ⌝ }
 {
+    let held = &store[0..store::lent(frame)];
     let op = bytes[at];
     let operands = node::operands_of(kinds, byte_size(op));
     let left = levels - 1;
     let one = if node::is_leaf(bytes, at + 1) {
-        leaf(bytes, store, frame, at + 1)
+        leaf(bytes, held, frame, at + 1)
     } else {
-        eval(bytes, kinds, store, frame, at + 1, left)
+        eval(bytes, kinds, held, frame, at + 1, left)
     };
     let a = one.value;
     let mut b = a;
     let mut next = one.next;
     if operands != 1 {
         let two = if node::is_leaf(bytes, next) {
-            leaf(bytes, store, frame, next)
+            leaf(bytes, held, frame, next)
         } else {
-            eval(bytes, kinds, store, frame, next, left)
+            eval(bytes, kinds, held, frame, next, left)
         };
         b = two.value;
         next = two.next;
         if operands == 3 {
             let three = if node::is_leaf(bytes, next) {
-                leaf(bytes, store, frame, next)
+                leaf(bytes, held, frame, next)
             } else {
-                eval(bytes, kinds, store, frame, next, left)
+                eval(bytes, kinds, held, frame, next, left)
             };
             let c = three.value;
             return valued(value::choose(a, b, c), three.next);
@@ -155,6 +158,7 @@ pub fn turn(
         × Framed (now (types .entry)) (now (look .entry)) (now (kept .entry)) streams known t (now (frame .exit)) ⌝ }
 {
     store::lay(types, look, kept, streams, known, t, frame);
+    store::lend(frame, store.len());
     let mut i = 0;
     while i < streams {
         let y = byte_size(order[i]);

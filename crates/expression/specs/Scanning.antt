@@ -47,8 +47,8 @@ pub record Noting (v rise fall : ℕ) (seen seen′ : List (List ℕ)) : Type 0 
   pub types : column seenType seen′ ≡ column seenType seen
 
 -- a place of a table, and a type
-abbrev pub CanNote : List (List ℕ) → (wanted at : ℕ) → Type 0
-CanNote seen wanted at = (wanted < 3) × (at < places)
+abbrev pub CanNote : (wanted at : ℕ) → Type 0
+CanNote wanted at = (wanted < 3) × (at < places)
 
 -- a node without operands: its answer, and its reference noted where it has no fault
 pub record LeafNoted (node : Node) (w at next : ℕ) (ts : List ℕ) (seen seen′ : List (List ℕ)) (r : ℕ) : Type 0 where

@@ -153,7 +153,7 @@ fn scan_now(
     at: usize,
     next: usize,
 ) -> usize
-    requires { ⌜ CanNote (now seen) wanted at ⌝ }
+    requires { ⌜ CanNote wanted at ⌝ }
     ensures { λ r. ⌜ LeafScanned (Now v) wanted at next (now (seen .entry)) (now (seen .exit)) r ⌝ }
 {
     let i = wire::byte_size(v);
@@ -177,7 +177,7 @@ fn scan_at(
     at: usize,
     next: usize,
 ) -> usize
-    requires { ⌜ CanNote (now seen) wanted at ⌝ }
+    requires { ⌜ CanNote wanted at ⌝ }
     ensures { λ r. ⌜ LeafScanned (At v k word) wanted at next (now (seen .entry)) (now (seen .exit)) r ⌝ }
 {
     let i = wire::byte_size(v);
@@ -257,13 +257,12 @@ pub fn scan_operator(
     if levels == 1 {
         return refused(node::deep_fault(table, kinds, next), next);
     }
-    let left = levels - 1;
     let operands = node::operands_of(kinds, op);
     let first = node::operand_of(kinds, op);
     let second = if node::leaf_stands(table, next) {
         scan_leaf(table, kinds, seen, first, next)
     } else {
-        scan_operator(table, kinds, seen, first, next, left)
+        scan_operator(table, kinds, seen, first, next, levels - 1)
     };
     if operands == 1 || refuses(second) {
         return second;
@@ -272,7 +271,7 @@ pub fn scan_operator(
     let third = if node::leaf_stands(table, second) {
         scan_leaf(table, kinds, seen, rest, second)
     } else {
-        scan_operator(table, kinds, seen, rest, second, left)
+        scan_operator(table, kinds, seen, rest, second, levels - 1)
     };
     if operands == 2 || refuses(third) {
         return third;
@@ -280,7 +279,7 @@ pub fn scan_operator(
     if node::leaf_stands(table, third) {
         scan_leaf(table, kinds, seen, rest, third)
     } else {
-        scan_operator(table, kinds, seen, rest, third, left)
+        scan_operator(table, kinds, seen, rest, third, levels - 1)
     }
 }
 

@@ -2,14 +2,14 @@
 -- Assumes nothing.
 use mathlib.Core.Path.{_≡_, sym, ap, _∙_}
 use mathlib.Core.Logic.{_⊎_, inl, inr}
-use mathlib.Core.List.{List, [], _∷_, _++_}
+use mathlib.Core.List.{List, [], _∷_, _++_, append-assoc}
 use Prim.Native.Nat.{ℕ, zero, suc, _+_, _/_, _%_, _^_, _<_, _≤_}
 use native.Mathlib.Nat.{pow-suc, div-lt-iff-lt-mul}
 use native.Mathlib.Omega.{arith}
 use borrow.Author.Tests.{lt-ltb, le-ltb}
 use lib.ListN.{length, length-append}
 use Rattle.basis.proofs.Tests.{lt-or-ge}
-use Rattle.lines.specs.Lines.{lastDigits, decimal}
+use Rattle.lines.specs.Lines.{lastDigits, decimal, twoDigits}
 
 one-digit : (most n : ℕ) → n < 10 → lastDigits (suc most) n ≡ (48 + n) ∷ []
 unfolding lastDigits
@@ -33,11 +33,30 @@ pub decimal-below-ten : (n : ℕ) → n < 10 → decimal n ≡ (48 + n) ∷ []
 unfolding decimal
 decimal-below-ten n h = one-digit n n h
 
-pub decimal-by-last-digit : (n : ℕ) → 10 ≤ n → decimal n ≡ decimal (n / 10) ++ ((48 + n % 10) ∷ [])
+decimal-by-last-digit : (n : ℕ) → 10 ≤ n → decimal n ≡ decimal (n / 10) ++ ((48 + n % 10) ∷ [])
 unfolding decimal
 decimal-by-last-digit n h = more-digits n n h ∙ ap (λ (l : List ℕ). l ++ ((48 + n % 10) ∷ [])) (enough-digits n (suc (n / 10)) (n / 10) (omega arith) (omega arith))
 
-pub one-more-digit : (n : ℕ) → 10 ≤ n → length (decimal n) ≡ length (decimal (n / 10)) + 1
+-- two digits at a time
+pub decimal-below-hundred : (n : ℕ) → 10 ≤ n → n < 100 → decimal n ≡ twoDigits n
+decimal-below-hundred n h k =
+    let f : n / 10 < 10 = omega arith in
+    decimal-by-last-digit n h ∙ ap (λ (l : List ℕ). l ++ ((48 + n % 10) ∷ [])) (decimal-below-ten (n / 10) f)
+
+pub decimal-by-last-two : (n : ℕ) → 100 ≤ n → decimal n ≡ decimal (n / 100) ++ twoDigits (n % 100)
+decimal-by-last-two n h =
+    let f : 10 ≤ n / 10 = omega arith in
+    let a : n / 10 / 10 ≡ n / 100 = omega arith in
+    let b : n / 10 % 10 ≡ n % 100 / 10 = omega arith in
+    let d : n % 10 ≡ n % 100 % 10 = omega arith in
+    decimal-by-last-digit n (omega arith) ∙ ap (λ (l : List ℕ). l ++ ((48 + n % 10) ∷ [])) (decimal-by-last-digit (n / 10) f)
+    ∙ append-assoc (decimal (n / 10 / 10)) ((48 + n / 10 % 10) ∷ []) ((48 + n % 10) ∷ [])
+    ∙ (λ i. decimal (a i) ++ ((48 + b i) ∷ (48 + d i) ∷ []))
+
+pub two-more-digits : (n : ℕ) → 100 ≤ n → length (decimal n) ≡ length (decimal (n / 100)) + 2
+two-more-digits n h = ap length (decimal-by-last-two n h) ∙ length-append (decimal (n / 100)) (twoDigits (n % 100))
+
+one-more-digit : (n : ℕ) → 10 ≤ n → length (decimal n) ≡ length (decimal (n / 10)) + 1
 one-more-digit n h = ap length (decimal-by-last-digit n h) ∙ length-append (decimal (n / 10)) ((48 + n % 10) ∷ [])
 
 -- a number below 10^(k+1) has at most k+1 digits

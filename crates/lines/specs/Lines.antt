@@ -15,6 +15,10 @@ lastDigits (suc most) n = orElse (ltb n 10) ((48 + n) ∷ []) λ _. lastDigits m
 unfoldable pub decimal : ℕ → List ℕ
 decimal n = lastDigits (suc n) n
 
+-- the two digits of a number below 100
+abbrev pub twoDigits : ℕ → List ℕ
+twoDigits n = (48 + n / 10) ∷ (48 + n % 10) ∷ []
+
 -- a lower-case hexadecimal digit: `0` to `9`, then `a` to `f`
 unfoldable pub hexDigit : ℕ → ℕ
 hexDigit d = cond (ltb d 10) (48 + d) (87 + d)

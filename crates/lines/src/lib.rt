@@ -3,7 +3,7 @@ ghost use mathlib.Core.Path.{_≡_};
 ghost use Prim.Native.Nat.{_+_, _≤_, _<_};
 ghost use lib.ListN.{length};
 ghost use Rattle.basis.specs.Written.{Wrote};
-ghost use Rattle.lines.specs.Lines.{decimal, spaced, pair, hexDigit, hex2, hex8, valueLine, triggerLine, refusalLine, stopLine, endLine};
+ghost use Rattle.lines.specs.Lines.{decimal, twoDigits, spaced, pair, hexDigit, hex2, hex8, valueLine, triggerLine, refusalLine, stopLine, endLine};
 ghost use Rattle.lines.specs.Lines.{mostValueLine, mostTriggerLine, mostRefusalLine, mostStopLine, mostEndLine};
 
 // `v stream position value`
@@ -76,7 +76,7 @@ fn put_spaced(out: &mut [u8], at: usize, x: u64) -> usize
     put_decimal(out, next, x)
 }
 
-// In decimal, without leading zeros. The digits in front are written first, so that there is one division for each digit.
+// In decimal, without leading zeros. The digits in front are written first, so that there is one division for each two digits.
 pub fn put_decimal(out: &mut [u8], at: usize, x: u64) -> usize
     requires { ⌜ at + length (decimal x) ≤ length (now out) ⌝ }
     ensures { λ r. ⌜ Wrote (now (out .entry)) at (decimal x) (now (out .exit)) r ⌝ }
@@ -84,8 +84,20 @@ pub fn put_decimal(out: &mut [u8], at: usize, x: u64) -> usize
     if x < 10 {
         return wire::put_byte(out, at, 48 + x as u8);
     }
-    let next = put_decimal(out, at, x / 10);
-    wire::put_byte(out, next, 48 + (x % 10) as u8)
+    if x < 100 {
+        return put_two(out, at, x as u8);
+    }
+    let next = put_decimal(out, at, x / 100);
+    put_two(out, next, (x % 100) as u8)
+}
+
+// Two digits, of a number below 100.
+fn put_two(out: &mut [u8], at: usize, x: u8) -> usize
+    requires { ⌜ (at + 2 ≤ length (now out)) × (x < 100) ⌝ }
+    ensures { λ r. ⌜ Wrote (now (out .entry)) at (twoDigits x) (now (out .exit)) r ⌝ }
+{
+    let next = wire::put_byte(out, at, 48 + x / 10);
+    wire::put_byte(out, next, 48 + x % 10)
 }
 
 // Eight hexadecimal digits.

@@ -1,13 +1,11 @@
 -- One expression node: its decoding, and its faults in their order where a type is wanted: "missing kind byte (2), 3, missing body (2), 6,
 -- 4, 5" (document 01, "The table" and "Refusal numbers"). Assumes nothing.
-use Prim.Native.Nat.{ℕ, zero, suc, _+_, _-_, _≤_}
+use Prim.Native.Nat.{ℕ, zero, suc, _+_, _-_}
 use mathlib.Core.Bool.{Bool, true, false, cond}
 use mathlib.Core.List.{List}
-use mathlib.Core.Path.{_≡_}
 use lib.Dec.{ltb, leb, eqb}
 use lib.ListN.{length, getD}
 use lib.IntN.{ℤ, pos, negsuc}
-use Rattle.limits.specs.Limits.{mostStreams}
 use Rattle.limits.specs.Refusals.{missing, wrongKind, wrongField, wrongType, tooDeep}
 use Rattle.wire.specs.Bytes.{wordAt}
 use Rattle.node.specs.declared.Node.{Node}
@@ -82,10 +80,6 @@ zeroFault (negsuc n) = 0
 -- the first of two numbers that is not 0
 unfoldable pub first : ℕ → ℕ → ℕ
 first a b = cond (eqb a 0) b a
-
--- the types of at most 32 streams, in an array by stream
-abbrev pub Types : ℕ → List ℕ → Type 0
-Types streams types = (streams ≤ mostStreams) × (length types ≡ mostStreams)
 
 -- 0, or the number of the fault of a node over streams of the types ts where the type w is wanted, also "stream not below S"
 unfoldable pub faultOf : List ℕ → ℕ → Node → ℕ

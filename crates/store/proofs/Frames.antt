@@ -1,5 +1,5 @@
 -- A frame of a turn as the code lays it, row by row. Assumes nothing.
-use Prim.Native.Nat.{ℕ, zero, suc, _+_, _-_, _%_, _≤_, _<_, _^_}
+use Prim.Native.Nat.{ℕ, zero, suc, _+_, _-_, _/_, _%_, _≤_, _<_, _^_}
 use mathlib.Core.Path.{_≡_, refl, ap, _∙_}
 use mathlib.Core.List.{List, []}
 use native.Mathlib.Omega.{arith}
@@ -12,7 +12,7 @@ use Rattle.basis.specs.Rows.{entry, put, Shaped}
 use Rattle.basis.proofs.Rows.{entry-put, entry-row, entry-other, shaped-put}
 use Rattle.limits.specs.Limits.{mostStreams}
 use Rattle.run.specs.Words.{base}
-use Rattle.store.specs.Store.{lapEntry, partEntry, keptEntry, typeEntry, frameEntries, turnRow, knownEntry, positionEntry, frameRows, newestOf, Laid, Framed}
+use Rattle.store.specs.Store.{lapEntry, partEntry, keptEntry, typeEntry, frameEntries, turnRow, knownEntry, positionEntry, lentEntry, lentHighEntry, frameRows, newestOf, lapOf, lentIn, lentWith, Laid, Framed}
 
 rows-long : (n : ℕ) (row : List ℕ) → length (replicate n row) ≡ n
 rows-long zero row = refl
@@ -68,13 +68,13 @@ module _ (types look kept : List ℕ) (n t v : ℕ) where
   -- the rows before v's are laid, and v's has its lap
   pub record Lapped (frame : List (List ℕ)) : Type 0 where
     pub rows : Laid types look kept v n t frame
-    pub lap : of look v ≤ t → entry frame v lapEntry ≡ newestOf look n t v - newestOf look n t v % of kept v
+    pub lap : of look v ≤ t → entry frame v lapEntry ≡ lapOf (newestOf look n t v) (of kept v)
 
   module _ (h : v < mostStreams) {frame : List (List ℕ)} where
-    pub lapped-due : {p k slot : ℕ} {after : List (List ℕ)} → Laid types look kept v n t frame → p ≡ newestOf look n t v → k ≡ of kept v → slot ≡ p % k → after ≡ put frame v lapEntry (p - slot) → Lapped after
-    lapped-due {p} {k} {slot} l e f g is = rw is (record {
-      rows = laid-put v lapEntry (p - slot) (omega arith) l;
-      lap = λ d. entry-put frame v lapEntry (p - slot) (omega (arith, l .shape .long)) (omega (arith, l .shape .wide v (omega arith))) ∙ rw (g, e, f);
+    pub lapped-due : {p k lap : ℕ} {after : List (List ℕ)} → Laid types look kept v n t frame → p ≡ newestOf look n t v → k ≡ of kept v → lap ≡ lapOf p k → after ≡ put frame v lapEntry lap → Lapped after
+    lapped-due {lap = lap} l e f g is = rw is (record {
+      rows = laid-put v lapEntry lap (omega arith) l;
+      lap = λ d. entry-put frame v lapEntry lap (omega (arith, l .shape .long)) (omega (arith, l .shape .wide v (omega arith))) ∙ rw (g, e, f);
     })
 
     pub lapped-not : {a : ℕ} {after : List (List ℕ)} → Laid types look kept v n t frame → a ≡ of look v → t < a → after ≡ frame → Lapped after
@@ -103,7 +103,7 @@ module _ (types look kept : List ℕ) (n t v : ℕ) where
       below : Laid types look kept v n t (put f2 v typeEntry y)
       below = laid-put v typeEntry y (omega arith) (laid-put v keptEntry k (omega arith) (laid-put v partEntry part (omega arith) (x .rows)))
 
-      lap-now : of look v ≤ t → entry (put f2 v typeEntry y) v lapEntry ≡ newestOf look n t v - newestOf look n t v % of kept v
+      lap-now : of look v ≤ t → entry (put f2 v typeEntry y) v lapEntry ≡ lapOf (newestOf look n t v) (of kept v)
       lap-now g = left typeEntry y lapEntry f2 (λ e. omega (arith, e)) ∙ left keptEntry k lapEntry f1 (λ e. omega (arith, e)) ∙ left partEntry part lapEntry frame (λ e. omega (arith, e)) ∙ x .lap g
 
       part-now : entry (put f2 v typeEntry y) v partEntry ≡ part
@@ -118,7 +118,7 @@ module _ (types look kept : List ℕ) (n t v : ℕ) where
       pub laid-more : part + k < 2 ^ 32 → y < 256 → Laid types look kept (v + 1) n t (put f2 v typeEntry y)
       laid-more a b = record {
         shape = below .shape;
-        laps = below-more (λ (u : ℕ). of look u ≤ t → entry (put f2 v typeEntry y) u lapEntry ≡ newestOf look n t u - newestOf look n t u % of kept u) v (below .laps) lap-now;
+        laps = below-more (λ (u : ℕ). of look u ≤ t → entry (put f2 v typeEntry y) u lapEntry ≡ lapOf (newestOf look n t u) (of kept u)) v (below .laps) lap-now;
         parts = below-more (λ (u : ℕ). entry (put f2 v typeEntry y) u partEntry ≡ base (of kept) u) v (below .parts) (part-now ∙ ep);
         keeps = below-more (λ (u : ℕ). entry (put f2 v typeEntry y) u keptEntry ≡ of kept u) v (below .keeps) (kept-now ∙ ek);
         typed = below-more (λ (u : ℕ). entry (put f2 v typeEntry y) u typeEntry ≡ of types u) v (below .typed) (type-now ∙ ey);
@@ -144,3 +144,26 @@ module _ {types look kept : List ℕ} {streams n t : ℕ} {frame : List (List �
 
     pub position-put : entry (put frame turnRow positionEntry p) turnRow positionEntry ≡ p
     position-put = entry-put frame turnRow positionEntry p (omega (arith, x .laid .shape .long)) (omega (arith, x .laid .shape .wide turnRow (omega arith)))
+
+-- the number of words lent: in the row of the turn, beside the others
+module _ (frame : List (List ℕ)) (shape : Shaped frameRows frameEntries frame) where
+  pub lent-put : (p : ℕ) → lentIn (put frame turnRow positionEntry p) ≡ lentIn frame
+  lent-put p =
+      omega (arith, entry-other frame turnRow positionEntry p lentEntry (λ e. omega (arith, e)), entry-other frame turnRow positionEntry p lentHighEntry (λ e. omega (arith, e)))
+
+  pub lent-is : (words : ℕ) → lentIn (lentWith words frame) ≡ words
+  lent-is words =
+      let low : List (List ℕ) = put frame turnRow lentEntry (words % 2 ^ 32) in
+      let s : Shaped frameRows frameEntries low = shaped-put turnRow lentEntry (words % 2 ^ 32) shape in
+      let a : entry (lentWith words frame) turnRow lentHighEntry ≡ words / 2 ^ 32 = entry-put low turnRow lentHighEntry (words / 2 ^ 32) (omega (arith, s .long)) (omega (arith, s .wide turnRow (omega arith))) in
+      let b : entry (lentWith words frame) turnRow lentEntry ≡ entry low turnRow lentEntry = entry-other low turnRow lentHighEntry (words / 2 ^ 32) lentEntry (λ e. omega (arith, e)) in
+      let d : entry low turnRow lentEntry ≡ words % 2 ^ 32 = entry-put frame turnRow lentEntry (words % 2 ^ 32) (omega (arith, shape .long)) (omega (arith, shape .wide turnRow (omega arith))) in
+      omega (arith, a, b, d)
+
+pub framed-lent : {types look kept : List ℕ} {streams n t : ℕ} {frame : List (List ℕ)} → streams ≤ mostStreams → (words : ℕ) → Framed types look kept streams n t frame → Framed types look kept streams n t (lentWith words frame)
+framed-lent {frame = frame} few words x = record {
+  laid = laid-put turnRow lentHighEntry (words / 2 ^ 32) few (laid-put turnRow lentEntry (words % 2 ^ 32) few (x .laid));
+  known =
+      entry-other (put frame turnRow lentEntry (words % 2 ^ 32)) turnRow lentHighEntry (words / 2 ^ 32) knownEntry (λ e. omega (arith, e))
+      ∙ entry-other frame turnRow lentEntry (words % 2 ^ 32) knownEntry (λ e. omega (arith, e)) ∙ x .known;
+}

@@ -1,12 +1,12 @@
 -- The lent store (document 01, "A run"): its layout, and what the functions over it answer. `types`, `look` and `kept` hold a number for
 -- each stream, q is a position. Assumes nothing.
-use Prim.Native.Nat.{ℕ, _+_, _-_, _%_, _≤_, _<_, _^_, min}
+use Prim.Native.Nat.{ℕ, _+_, _-_, _*_, _/_, _%_, _≤_, _<_, _^_, min}
 use mathlib.Core.Path.{_≡_}
 use mathlib.Core.Bool.{cond}
 use mathlib.Core.List.{List, _++_}
 use lib.Dec.{ltb}
 use lib.ListN.{getD, drop, replicate}
-use Rattle.basis.specs.Rows.{entry, Shaped}
+use Rattle.basis.specs.Rows.{entry, put, Shaped}
 use Rattle.basis.specs.Firsts.{of}
 use Rattle.limits.specs.Limits.{mostStreams}
 use Rattle.value.specs.declared.Value.{Value}
@@ -72,6 +72,12 @@ knownEntry = 0
 abbrev pub positionEntry : ℕ
 positionEntry = 1
 
+abbrev pub lentEntry : ℕ
+lentEntry = 2
+
+abbrev pub lentHighEntry : ℕ
+lentHighEntry = 3
+
 abbrev pub frameRows : ℕ
 frameRows = mostStreams + 1
 
@@ -79,11 +85,15 @@ frameRows = mostStreams + 1
 abbrev pub newestOf : (look : List ℕ) (n t v : ℕ) → ℕ
 newestOf look n t v = min (t - of look v) (n - 1)
 
--- The first rows of a frame of turn t, where n rows are known. Of each stream it has the lap, which is the newest position less its slot, and
+-- where the lap before that of position q starts, by laps of n positions: q less its slot less a lap, or 0
+abbrev pub lapOf : (q n : ℕ) → ℕ
+lapOf q n = q - q % n - n
+
+-- The first rows of a frame of turn t, where n rows are known. Of each stream it has the lap before that of the newest position, and
 -- where its part starts: "The store holds one part for each stream, in stream order, as long as its kept number".
 pub record Laid (types look kept : List ℕ) (streams n t : ℕ) (frame : List (List ℕ)) : Type 0 where
   pub shape : Shaped frameRows frameEntries frame
-  pub laps : (v : ℕ) → v < streams → of look v ≤ t → entry frame v lapEntry ≡ newestOf look n t v - newestOf look n t v % of kept v
+  pub laps : (v : ℕ) → v < streams → of look v ≤ t → entry frame v lapEntry ≡ lapOf (newestOf look n t v) (of kept v)
   pub parts : (v : ℕ) → v < streams → entry frame v partEntry ≡ base (of kept) v
   pub keeps : (v : ℕ) → v < streams → entry frame v keptEntry ≡ of kept v
   pub typed : (v : ℕ) → v < streams → entry frame v typeEntry ≡ of types v
@@ -94,17 +104,25 @@ pub record Framed (types look kept : List ℕ) (streams n t : ℕ) (frame : List
   pub laid : Laid types look kept streams n t frame
   pub known : entry frame turnRow knownEntry ≡ n
 
--- the word for the position q of v by the frame's numbers: a position before the lap has its slot in the lap before
+-- the number of words lent, as the row of the turn has it: two numbers below 2 ^ 32
+abbrev pub lentIn : List (List ℕ) → ℕ
+lentIn frame = entry frame turnRow lentEntry + entry frame turnRow lentHighEntry * 2 ^ 32
+
+abbrev pub lentWith : ℕ → List (List ℕ) → List (List ℕ)
+lentWith words frame = put (put frame turnRow lentEntry (words % 2 ^ 32)) turnRow lentHighEntry (words / 2 ^ 32)
+
+-- the word for the position q of v by the frame's numbers: as far as q lies past the lap, less a whole lap where that is more
 unfoldable pub placeIn : (frame : List (List ℕ)) (v q : ℕ) → ℕ
 placeIn frame v q =
-    let lap = entry frame v lapEntry in
-    cond (ltb q lap) (entry frame v keptEntry - (lap - q)) (q - lap) + entry frame v partEntry
+    let far = q - entry frame v lapEntry in
+    let n = entry frame v keptEntry in
+    cond (ltb far n) far (far - n) + entry frame v partEntry
 
--- the position q of v is near the lap, so that the frame has a word of v's part for it
+-- the position q of v lies less than two laps past the lap, so that the frame has a word of v's part for it
 pub record Placeable (frame : List (List ℕ)) (v q : ℕ) : Type 0 where
   pub stream : v < mostStreams
   pub shape : Shaped frameRows frameEntries frame
-  pub near : (entry frame v lapEntry ≤ q + entry frame v keptEntry) × (q < entry frame v lapEntry + entry frame v keptEntry)
+  pub near : (entry frame v lapEntry ≤ q) × (q < entry frame v lapEntry + entry frame v keptEntry + entry frame v keptEntry)
   pub small : entry frame v partEntry + entry frame v keptEntry < 2 ^ 32
 
 -- and a store of n words has that word

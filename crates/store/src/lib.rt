@@ -3,14 +3,14 @@
 ghost use mathlib.Core.Path.{_≡_};
 ghost use Prim.Native.Nat.{_%_, _≤_, _<_};
 ghost use lib.ListN.{length, getD, set};
-ghost use Rattle.basis.specs.Rows.{entry};
+ghost use Rattle.basis.specs.Rows.{entry, Shaped};
 ghost use Rattle.value.specs.Values.{readingOf, imageOf};
-ghost use Rattle.store.specs.Store.{typeEntry, Placeable, Findable, placeIn, clearedOf, CanLay, Framed};
+ghost use Rattle.store.specs.Store.{typeEntry, frameRows, frameEntries, lapOf, lentIn, lentWith, Placeable, Findable, placeIn, clearedOf, CanLay, Framed};
 use limits::STREAMS_MOST;
 use value::Value;
 
-// What a turn needs of each stream is worked out once: a frame, with a row for each stream. The lap is the newest position that the turn has
-// of the stream less that position's slot, so that no slot needs a division.
+// What a turn needs of each stream is worked out once: a frame, with a row for each stream. The lap is where the lap before that of the newest
+// position starts: every position that the store holds lies less than two laps past it, so that no slot needs a division.
 const LAP: usize = 0;
 
 const PART: usize = 1;
@@ -28,6 +28,13 @@ pub const KNOWN: usize = 0;
 
 pub const POSITION: usize = 1;
 
+// And the number of words lent, in two: what is below 2^32, and how often 2^32 is in it.
+const LENT: usize = 2;
+
+const LENT_HIGH: usize = 3;
+
+const HIGH_ONE: u64 = 4_294_967_296;
+
 pub const FRAME_ROWS: usize = STREAMS_MOST + 1;
 
 // "word p mod n of its part". A division takes longer than the test.
@@ -38,18 +45,45 @@ fn slot_of(q: u32, n: u32) -> u32
     if n == 1 { 0 } else { q % n }
 }
 
-// The word for the position q of the stream v: a position before the lap has its slot in the lap before.
+// Where the lap before that of the position q starts, or 0 where q lies in the first: n positions are a lap.
+fn lap_before(q: u32, n: u32) -> u32
+    requires { ⌜ 0 < n ⌝ }
+    ensures { λ r. ⌜ r ≡ lapOf q n ⌝ }
+{
+    let lap = q - slot_of(q, n);
+    if lap < n { lap } else { lap - n }
+}
+
+// The word for the position q of the stream v: as far as it lies past the lap, less a whole lap where that is more. A choice and not a branch, since
+// on which side a reference falls changes from row to row, and no processor foresees it.
 fn place(frame: &[[u32; FRAME_ENTRIES]; FRAME_ROWS], v: usize, q: u32) -> usize
     requires { ⌜ Placeable (now frame) v q ⌝ }
     ensures { λ r. ⌜ r ≡ placeIn (now (frame .entry)) v q ⌝ }
 {
-    let lap = frame[v][LAP];
-    let slot = if q < lap {
-        frame[v][KEPT] - (lap - q)
-    } else {
-        q - lap
-    };
+    let far = q - frame[v][LAP];
+    let n = frame[v][KEPT];
+    let slot = if far < n { far } else { far - n };
     (slot + frame[v][PART]) as usize
+}
+
+// Notes the number of words lent in the row of the turn.
+pub fn lend(frame: &mut [[u32; FRAME_ENTRIES]; FRAME_ROWS], words: usize)
+    requires { ⌜ Shaped frameRows frameEntries (now frame) ⌝ }
+    ensures { λ _. ⌜ now (frame .exit) ≡ lentWith words (now (frame .entry)) ⌝ }
+{
+    let wide = words as u64;
+    frame[TURN][LENT] = (wide % HIGH_ONE) as u32;
+    frame[TURN][LENT_HIGH] = (wide / HIGH_ONE) as u32;
+}
+
+// The number noted.
+pub fn lent(frame: &[[u32; FRAME_ENTRIES]; FRAME_ROWS]) -> usize
+    requires { ⌜ Shaped frameRows frameEntries (now frame) ⌝ }
+    ensures { λ r. ⌜ r ≡ lentIn (now (frame .entry)) ⌝ }
+{
+    let low = wire::word_wide(frame[TURN][LENT]);
+    let high = wire::word_wide(frame[TURN][LENT_HIGH]);
+    (low + high * HIGH_ONE) as usize
 }
 
 // The value of the stream v for the position q.
@@ -120,8 +154,7 @@ pub fn lay(
             } else {
                 known - 1
             };
-            let newest = p as u32;
-            frame[v][LAP] = newest - slot_of(newest, n);
+            frame[v][LAP] = lap_before(p as u32, n);
         }
         frame[v][PART] = part;
         frame[v][KEPT] = n;

@@ -1,12 +1,16 @@
 -- Laws of the operators' results (document 01, "The table", kinds 20 to 2F).
 -- Assumes nothing.
-use mathlib.Core.Path.{_≡_, refl}
-use mathlib.Core.Bool.{Bool}
+use mathlib.Core.Path.{_≡_, refl, sym}
+use mathlib.Core.Bool.{Bool, true, false, _&&_}
 use Prim.Native.Nat.{ℕ, _<_, _^_, _+_, _-_, _%_}
 use native.Mathlib.Omega.{arith}
+use borrow.Author.Tests.{ne-eqb, eqb-true}
+use lib.Dec.{eqb}
+use lib.Ieee as Ieee
 use lib.Ieee.{Float, binary32}
 use lib.Ieee.Fits.{add-fits, sub-fits, mul-fits, div-fits}
-use Rattle.value.specs.Values.{typeOf, Good, Op, onOp, typeOfOp, not-flag, and-flags, or-flags, add-words, sub-words, ahead-words, less-words, equal-words, equal-flags, equal-levels, add-levels, sub-levels, mul-levels, div-levels, less-levels, no-operator}
+use Rattle.value.specs.Values.{typeOf, flagOf, Good, Op, opOf, pickOp, onOp, typeOfOp, not-flag, and-flags, or-flags, add-words, sub-words, ahead-words, less-words, equal-words, equal-flags, equal-levels, add-levels, sub-levels, mul-levels, div-levels, less-levels, no-operator}
+use Rattle.value.specs.declared.Value.the-variants.{Flag}
 
 -- every operator's result is of the operator's type
 pub op-type : (o : Op) (p q : Bool) (m n : ℕ) (x y : Float) → typeOf (onOp o p q m n x y) ≡ typeOfOp o
@@ -48,3 +52,50 @@ op-good mul-levels p q m n x y = mul-fits binary32 x y
 op-good div-levels p q m n x y = div-fits binary32 x y
 op-good less-levels p q m n x y = tt
 op-good no-operator p q m n x y = tt
+
+-- the flags that operators give, as the code finds them
+module _ (p q : Bool) (m n : ℕ) (x y : Float) where
+  abbrev given : Op → Bool
+  given o = flagOf (onOp o p q m n x y)
+
+  record GivesFlag (o : Op) : Type 0 where
+    pub is : onOp o p q m n x y ≡ Flag (given o)
+
+  record NeverTrue (o : Op) : Type 0 where
+    pub is : given o ≡ false
+
+  flag-of : (b : Bool) (o : Op) {o' : Op} → onOp o p q m n x y ≡ Flag (given o) → GivesFlag o' → GivesFlag (pickOp b o o')
+  flag-of true o g h = record { is = g }
+  flag-of false o g h = h
+
+  never-of : (b : Bool) (o : Op) {o' : Op} → given o ≡ false → NeverTrue o' → NeverTrue (pickOp b o o')
+  never-of true o g h = record { is = g }
+  never-of false o g h = h
+
+  module _ (k : ℕ) where
+    -- all but the six kinds of words and levels give a flag
+    pub gives-flag : (k ≡ 0x24 → ⊥) → (k ≡ 0x25 → ⊥) → (k ≡ 0x2b → ⊥) → (k ≡ 0x2c → ⊥) → (k ≡ 0x2d → ⊥) → (k ≡ 0x2e → ⊥) → onOp (opOf k) p q m n x y ≡ Flag (given (opOf k))
+    unfolding opOf
+    gives-flag a b c d e f =
+        let all =
+        flag-of (eqb k 0x20) not-flag refl (flag-of (eqb k 0x21) and-flags refl (flag-of (eqb k 0x22) or-flags refl (flag-of (eqb k 0x26) ahead-words refl
+        (flag-of (eqb k 0x27) less-words refl (flag-of (eqb k 0x28) equal-words refl (flag-of (eqb k 0x29) equal-flags refl (flag-of (eqb k 0x2a) equal-levels refl
+        (flag-of (eqb k 0x2f) less-levels refl (record { is = refl })))))))))
+        in rw (ne-eqb _ _ a, ne-eqb _ _ b, ne-eqb _ _ c, ne-eqb _ _ d, ne-eqb _ _ e, ne-eqb _ _ f) (all .is)
+
+    -- the operators behind the eight that are tried first
+    last-of : (w : Bool) → eqb k 0x2f ≡ w
+        → (w && Ieee.lt x y) ≡ given (pickOp (eqb k 0x24) add-words (pickOp (eqb k 0x25) sub-words (pickOp (eqb k 0x2b) add-levels (pickOp (eqb k 0x2c) sub-levels
+        (pickOp (eqb k 0x2d) mul-levels (pickOp (eqb k 0x2e) div-levels (pickOp w less-levels no-operator)))))))
+    last-of true e = let i : k ≡ 0x2f = eqb-true _ _ e in rw i refl
+    last-of false e =
+        let all =
+        never-of (eqb k 0x24) add-words refl (never-of (eqb k 0x25) sub-words refl (never-of (eqb k 0x2b) add-levels refl (never-of (eqb k 0x2c) sub-levels refl
+        (never-of (eqb k 0x2d) mul-levels refl (never-of (eqb k 0x2e) div-levels refl (record { is = refl }))))))
+        in sym (all .is)
+
+    -- of a kind that is none of those eight, the flag is that of `less` of levels, or false
+    pub last-flag : (k ≡ 0x20 → ⊥) → (k ≡ 0x21 → ⊥) → (k ≡ 0x22 → ⊥) → (k ≡ 0x26 → ⊥) → (k ≡ 0x27 → ⊥) → (k ≡ 0x28 → ⊥) → (k ≡ 0x29 → ⊥) → (k ≡ 0x2a → ⊥) → (eqb k 0x2f && Ieee.lt x y) ≡ given (opOf k)
+    unfolding opOf
+    last-flag a b c d e f g h =
+        rw (ne-eqb _ _ a, ne-eqb _ _ b, ne-eqb _ _ c, ne-eqb _ _ d, ne-eqb _ _ e, ne-eqb _ _ f, ne-eqb _ _ g, ne-eqb _ _ h) (last-of (eqb k 0x2f) refl)

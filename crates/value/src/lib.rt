@@ -89,22 +89,32 @@ fn operate(kind: u8, p: bool, q: bool, m: u32, n: u32, x: f32, y: f32) -> Value
     ensures { λ r. ⌜ r ≡ operateOf kind p q m n x y ⌝ }
 {
     match kind {
-        0x20 => Value::Flag(!p),
-        0x21 => Value::Flag(both(p, q)),
-        0x22 => Value::Flag(either(p, q)),
         0x24 => Value::Word(std::num::wrapping_add_u32(m, n)),
         0x25 => Value::Word(sub_words(m, n)),
-        0x26 => Value::Flag(ahead(m, n)),
-        0x27 => Value::Flag(m < n),
-        0x28 => Value::Flag(m == n),
-        0x29 => Value::Flag(same(p, q)),
-        0x2a => Value::Flag(level::equal_levels(x, y)),
         0x2b => Value::Level(x + y),
         0x2c => Value::Level(x - y),
         0x2d => Value::Level(x * y),
         0x2e => Value::Level(x / y),
-        0x2f => Value::Flag(x < y),
-        _ => Value::Flag(false),
+        _ => Value::Flag(holds(kind, p, q, m, n, x, y)),
+    }
+}
+
+// Whether it gives true. The flags have a match of their own, and its last arm is no constant: as it
+// is, the compiler sets a flag without a branch on it. Values change from row to row, and no
+// processor foresees them.
+fn holds(kind: u8, p: bool, q: bool, m: u32, n: u32, x: f32, y: f32) -> bool
+    ensures { λ r. ⌜ r ≡ flagOf (operateOf kind p q m n x y) ⌝ }
+{
+    match kind {
+        0x20 => !p,
+        0x21 => both(p, q),
+        0x22 => either(p, q),
+        0x26 => ahead(m, n),
+        0x27 => m < n,
+        0x28 => m == n,
+        0x29 => same(p, q),
+        0x2a => level::equal_levels(x, y),
+        _ => both(kind == 0x2f, x < y),
     }
 }
 
@@ -123,7 +133,7 @@ fn ahead(a: u32, b: u32) -> bool
     if d == 0 { false } else { d < 0x8000_0000 }
 }
 
-// The three on flags are functions, so that the arms of `operate` do not branch.
+// The three on flags are functions, so that the arms of `holds` do not branch.
 fn both(p: bool, q: bool) -> bool
     ensures { λ r. ⌜ r ≡ p && q ⌝ }
 {

@@ -9,17 +9,16 @@ use Rattle.limits.specs.Limits.{mostTable, mostStreams}
 use Rattle.basis.specs.Edges.{among}
 use Rattle.walks.specs.Walks.{Within, Right}
 use Rattle.node.specs.Kinds.{Tabulated}
-use Rattle.node.specs.Node.{Types}
 use Rattle.table.specs.Table.{Equation, Equations, equated, edgesFrom}
 use Rattle.table.specs.Answers.{padded, startsOf}
 use Rattle.certificate.specs.Certificate.{Ordered}
 
--- what the pass over the equations needs: the constant table, the streams' types, where the first equation starts, and arrays to fill
+-- what the pass over the equations needs: the constant table, the types of at most 32 streams in an array by stream, where the first equation starts, and arrays to fill
 pub record CanJudge (kinds : List (List ℕ)) (s types : List ℕ) (inputs streams at : ℕ) (starts order : List ℕ) : Type 0 where
   pub tabulated : Tabulated kinds
   pub short : length s ≤ mostTable
   pub some : inputs ≤ streams
-  pub sized : Types streams types
+  pub sized : (streams ≤ mostStreams) × (length types ≡ mostStreams)
   pub typed : (v : ℕ) → v < streams → getD types v 0 < 3
   pub place : at ≤ length s
   pub starts-blank : starts ≡ replicate mostStreams 0

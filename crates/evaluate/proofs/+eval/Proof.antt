@@ -4,8 +4,9 @@ use mathlib.Core.Logic.{⊎-elim}
 use mathlib.Core.Path.{sym, _∙_}
 use native.Mathlib.Omega.{arith}
 use borrow.Author.Needs.{needs}
+use Rattle.store.proofs.Places.{all-lent}
 use Rattle.evaluate.proofs.Heads.{standing-at, low-kind}
-use Rattle.evaluate.proofs.Operands.{evaluates-as, first-readable, second-readable, third-readable, one-gives, two-give, three-give}
+use Rattle.evaluate.proofs.Operands.{evaluates-on, readable-on, first-readable, second-readable, third-readable, one-gives, two-give, three-give}
 use Prim.Native.Nat.{ℕ, _+_, _-_, _<_}
 use borrow.Fn.Kinds.{In}
 use borrow.Fn.PlainCycle.{Measures, is, falls, and}
@@ -16,6 +17,7 @@ use Rattle.evaluate.proofs.leaf.Reads as leaf-reads
 use Rattle.evaluate.proofs.valued.Reads as valued-reads
 use Rattle.node.proofs.is_leaf.Reads as is-leaf-reads
 use Rattle.node.proofs.operands_of.Reads as operands-of-reads
+use Rattle.store.proofs.lent.Reads as lent-reads
 use Rattle.value.proofs.apply.Reads as apply-reads
 use Rattle.value.proofs.choose.Reads as choose-reads
 use Rattle.wire.proofs.byte_size.Reads as byte-size-reads
@@ -32,66 +34,76 @@ abbrev eval-below : ℕ → In 4 eval-kinds.ps
 eval-below t = and 4 eval-kinds.ps (falls 4 eval-kinds.ps _<_ μ-eval t) eval.Pre
 
 abbrev calls : ℕ → eval-lts.Claims
-calls t = (byte-size-reads.Asked, byte-size-reads.Learnt, operands-of-reads.Asked, operands-of-reads.Learnt, is-leaf-reads.Asked, is-leaf-reads.Learnt, leaf-reads.Asked, leaf-reads.Learnt, eval-below t, eval.Post, choose-reads.Asked, choose-reads.Learnt, valued-reads.Asked, valued-reads.Learnt, apply-reads.Asked, apply-reads.Learnt)
+calls t = (lent-reads.Asked, lent-reads.Learnt, byte-size-reads.Asked, byte-size-reads.Learnt, operands-of-reads.Asked, operands-of-reads.Learnt, is-leaf-reads.Asked, is-leaf-reads.Learnt, leaf-reads.Asked, leaf-reads.Learnt, eval-below t, eval.Post, choose-reads.Asked, choose-reads.Learnt, valued-reads.Asked, valued-reads.Learnt, apply-reads.Asked, apply-reads.Learnt)
+
+eval-lent-requires : (t : ℕ) → eval-lts.Need-lent-requires (calls t) (eval-at t) eval.Post
+eval-lent-requires t c κs = c .before .before .pre .1 .1 .readable .turn .framed .laid .shape
+
+eval-part-held-end : (t : ℕ) → eval-lts.Need-part-held-end (calls t) (eval-at t) eval.Post
+eval-part-held-end t c = omega (arith, c .lent .ensures, c .before .before .before .pre .1 .1 .readable .turn .lent)
 
 eval-shared-slice-read-op : (t : ℕ) → eval-lts.Need-shared-slice-read-op (calls t) (eval-at t) eval.Post
-eval-shared-slice-read-op t c = standing-at (c .before .before .before .pre .1 .1 .readable) .inside
+eval-shared-slice-read-op t c = standing-at (c .before .before .before .before .before .pre .1 .1 .readable) .inside
 
 eval-operands-of-requires : (t : ℕ) → eval-lts.Need-operands-of-requires (calls t) (eval-at t) eval.Post
-eval-operands-of-requires t c κs = (rw (c .byte-size .ensures .0) (low-kind (c .before .before .before .before .pre .1 .1 .readable)), c .before .before .before .before .pre .1 .0)
+eval-operands-of-requires t c κs = (rw (c .byte-size .ensures .0) (low-kind (c .before .before .before .before .before .before .pre .1 .1 .readable)), c .before .before .before .before .before .before .pre .1 .0)
 
 eval-sub-left : (t : ℕ) → eval-lts.Need-sub-left (calls t) (eval-at t) eval.Post
-eval-sub-left t c = omega (arith, standing-at (c .before .before .before .before .before .pre .1 .1 .readable) .level)
+eval-sub-left t c = omega (arith, standing-at (c .before .before .before .before .before .before .before .pre .1 .1 .readable) .level)
 
 eval-add-is-leaf : (t : ℕ) → eval-lts.Need-add-is-leaf (calls t) (eval-at t) eval.Post
-eval-add-is-leaf t c = omega (arith, standing-at (c .before .before .before .before .before .pre .1 .1 .readable) .inside, c .before .before .before .before .before .good)
+eval-add-is-leaf t c = omega (arith, standing-at (c .before .before .before .before .before .before .before .pre .1 .1 .readable) .inside, c .before .before .before .before .before .before .before .good)
 
 eval-is-leaf-requires : (t : ℕ) → eval-lts.Need-is-leaf-requires (calls t) (eval-at t) eval.Post
-eval-is-leaf-requires t c κs = standing-at (first-readable (c .before .before .before .before .before .args .store .now) (c .before .before .before .before .before .pre .1 .1 .readable) (c .before .before .before .before .before .pre .1 .1 .operator)) .body
+eval-is-leaf-requires t c κs = standing-at (first-readable (c .before .before .before .before .before .before .before .args .store .now) (c .before .before .before .before .before .before .before .pre .1 .1 .readable) (c .before .before .before .before .before .before .before .pre .1 .1 .operator)) .body
 
 eval-add-leaf : (t : ℕ) → eval-lts.Need-add-leaf (calls t) (eval-at t) eval.Post
-eval-add-leaf t c = omega (arith, standing-at (c .before .before .before .before .before .before .before .pre .1 .1 .readable) .inside, c .before .before .before .before .before .before .before .good)
+eval-add-leaf t c = omega (arith, standing-at (c .before .before .before .before .before .before .before .before .before .pre .1 .1 .readable) .inside, c .before .before .before .before .before .before .before .before .before .good)
 
 eval-leaf-requires : (t : ℕ) → eval-lts.Need-leaf-requires (calls t) (eval-at t) eval.Post
-eval-leaf-requires t c κs = record { levels = c .before .before .before .before .before .before .before .args .levels - 1; readable = (first-readable (c .before .before .before .before .before .before .before .args .store .now) (c .before .before .before .before .before .before .before .pre .1 .1 .readable) (c .before .before .before .before .before .before .before .pre .1 .1 .operator)); leaf = sym (c .before .is-leaf .ensures) ∙ c .if1 .taken }
+eval-leaf-requires t c κs = record { levels = c .before .before .before .before .before .before .before .before .before .args .levels - 1; readable = readable-on (all-lent (c .before .before .before .before .before .before .before .before .before .args .store .now) (c .before .before .before .before .before .before .lent .ensures ∙ c .before .before .before .before .before .before .before .before .before .pre .1 .1 .readable .turn .lent)) (first-readable (c .before .before .before .before .before .before .before .before .before .args .store .now) (c .before .before .before .before .before .before .before .before .before .pre .1 .1 .readable) (c .before .before .before .before .before .before .before .before .before .pre .1 .1 .operator)); leaf = sym (c .before .is-leaf .ensures) ∙ c .if1 .taken }
 
 eval-add-eval : (t : ℕ) → eval-lts.Need-add-eval (calls t) (eval-at t) eval.Post
-eval-add-eval t c = omega (arith, standing-at (c .before .before .before .before .before .before .before .pre .1 .1 .readable) .inside, c .before .before .before .before .before .before .before .good)
+eval-add-eval t c = omega (arith, standing-at (c .before .before .before .before .before .before .before .before .before .pre .1 .1 .readable) .inside, c .before .before .before .before .before .before .before .before .before .good)
 
 eval-eval-requires : (t : ℕ) → eval-lts.Need-eval-requires (calls t) (eval-at t) eval.Post
-eval-eval-requires t c κs = (omega (arith, standing-at (c .before .before .before .before .before .before .before .pre .1 .1 .readable) .level, c .before .before .before .before .before .before .before .pre .0), (c .before .before .before .before .before .before .before .pre .1 .0, record { readable = (first-readable (c .before .before .before .before .before .before .before .args .store .now) (c .before .before .before .before .before .before .before .pre .1 .1 .readable) (c .before .before .before .before .before .before .before .pre .1 .1 .operator)); operator = sym (c .before .is-leaf .ensures) ∙ c .if1 .left }))
+eval-eval-requires t c κs = (omega (arith, standing-at (c .before .before .before .before .before .before .before .before .before .pre .1 .1 .readable) .level, c .before .before .before .before .before .before .before .before .before .pre .0), (c .before .before .before .before .before .before .before .before .before .pre .1 .0, record { readable = readable-on (all-lent (c .before .before .before .before .before .before .before .before .before .args .store .now) (c .before .before .before .before .before .before .lent .ensures ∙ c .before .before .before .before .before .before .before .before .before .pre .1 .1 .readable .turn .lent)) (first-readable (c .before .before .before .before .before .before .before .before .before .args .store .now) (c .before .before .before .before .before .before .before .before .before .pre .1 .1 .readable) (c .before .before .before .before .before .before .before .before .before .pre .1 .1 .operator)); operator = sym (c .before .is-leaf .ensures) ∙ c .if1 .left }))
 
 eval-is-leaf-requires-2 : (t : ℕ) → eval-lts.Need-is-leaf-requires-2 (calls t) (eval-at t) eval.Post
-eval-is-leaf-requires-2 t c κs = standing-at (second-readable (c .before .before .before .before .before .before .before .before .args .store .now) (c .before .before .before .before .before .before .before .before .pre .1 .1 .readable) (c .before .before .before .before .before .before .before .before .pre .1 .1 .operator) (⊎-elim (λ w. evaluates-as (c .before .before .before .before .before .before .before .before .args .levels - 1) (c .before .before .before .before .before .before .before .before .args .frame .now) (c .before .before .before .before .before .before .before .before .args .store .now) (c .before .before .before .before .before .before .before .before .args .bytes .now) (c .before .before .before .before .before .before .before .before .args .at + 1) (w .2) (w .1 .ensures (c .before .before .before .before .before .before .before .before .args .levels - 1))) (λ w. evaluates-as (c .before .before .before .before .before .before .before .before .args .levels - 1) (c .before .before .before .before .before .before .before .before .args .frame .now) (c .before .before .before .before .before .before .before .before .args .store .now) (c .before .before .before .before .before .before .before .before .args .bytes .now) (c .before .before .before .before .before .before .before .before .args .at + 1) (w .2) (w .1 .ensures)) (c .before .if1 .came)) (λ e. c .if2 .taken ((rw (c .before .before .before .before .byte-size .ensures .0) at (c .before .before .before .operands-of .ensures)) ∙ e))) .body
+eval-is-leaf-requires-2 t c κs = standing-at (second-readable (c .before .before .before .before .before .before .before .before .before .before .args .store .now) (c .before .before .before .before .before .before .before .before .before .before .pre .1 .1 .readable) (c .before .before .before .before .before .before .before .before .before .before .pre .1 .1 .operator) (⊎-elim (λ w. evaluates-on (c .before .before .before .before .before .before .before .before .before .before .args .levels - 1) (c .before .before .before .before .before .before .before .before .before .before .args .frame .now) (c .before .before .before .before .before .before .before .before .before .before .args .store .now) (c .before .before .before .before .before .before .before .before .before .before .args .bytes .now) (c .before .before .before .before .before .before .before .before .before .before .args .at + 1) (all-lent (c .before .before .before .before .before .before .before .before .before .before .args .store .now) (c .before .before .before .before .before .before .before .lent .ensures ∙ c .before .before .before .before .before .before .before .before .before .before .pre .1 .1 .readable .turn .lent)) (w .2) (w .1 .ensures (c .before .before .before .before .before .before .before .before .before .before .args .levels - 1))) (λ w. evaluates-on (c .before .before .before .before .before .before .before .before .before .before .args .levels - 1) (c .before .before .before .before .before .before .before .before .before .before .args .frame .now) (c .before .before .before .before .before .before .before .before .before .before .args .store .now) (c .before .before .before .before .before .before .before .before .before .before .args .bytes .now) (c .before .before .before .before .before .before .before .before .before .before .args .at + 1) (all-lent (c .before .before .before .before .before .before .before .before .before .before .args .store .now) (c .before .before .before .before .before .before .before .lent .ensures ∙ c .before .before .before .before .before .before .before .before .before .before .pre .1 .1 .readable .turn .lent)) (w .2) (w .1 .ensures)) (c .before .if1 .came)) (λ e. c .if2 .taken ((rw (c .before .before .before .before .byte-size .ensures .0) at (c .before .before .before .operands-of .ensures)) ∙ e))) .body
 
 eval-leaf-requires-2 : (t : ℕ) → eval-lts.Need-leaf-requires-2 (calls t) (eval-at t) eval.Post
-eval-leaf-requires-2 t c κs = record { levels = c .before .before .before .before .before .before .before .before .before .before .args .levels - 1; readable = (second-readable (c .before .before .before .before .before .before .before .before .before .before .args .store .now) (c .before .before .before .before .before .before .before .before .before .before .pre .1 .1 .readable) (c .before .before .before .before .before .before .before .before .before .before .pre .1 .1 .operator) (⊎-elim (λ w. evaluates-as (c .before .before .before .before .before .before .before .before .before .before .args .levels - 1) (c .before .before .before .before .before .before .before .before .before .before .args .frame .now) (c .before .before .before .before .before .before .before .before .before .before .args .store .now) (c .before .before .before .before .before .before .before .before .before .before .args .bytes .now) (c .before .before .before .before .before .before .before .before .before .before .args .at + 1) (w .2) (w .1 .ensures (c .before .before .before .before .before .before .before .before .before .before .args .levels - 1))) (λ w. evaluates-as (c .before .before .before .before .before .before .before .before .before .before .args .levels - 1) (c .before .before .before .before .before .before .before .before .before .before .args .frame .now) (c .before .before .before .before .before .before .before .before .before .before .args .store .now) (c .before .before .before .before .before .before .before .before .before .before .args .bytes .now) (c .before .before .before .before .before .before .before .before .before .before .args .at + 1) (w .2) (w .1 .ensures)) (c .before .before .before .if1 .came)) (λ e. c .before .before .if2 .taken ((rw (c .before .before .before .before .before .before .byte-size .ensures .0) at (c .before .before .before .before .before .operands-of .ensures)) ∙ e))); leaf = sym (c .before .is-leaf2 .ensures) ∙ c .if3 .taken }
+eval-leaf-requires-2 t c κs = record { levels = c .before .before .before .before .before .before .before .before .before .before .before .before .args .levels - 1; readable = readable-on (all-lent (c .before .before .before .before .before .before .before .before .before .before .before .before .args .store .now) (c .before .before .before .before .before .before .before .before .before .lent .ensures ∙ c .before .before .before .before .before .before .before .before .before .before .before .before .pre .1 .1 .readable .turn .lent)) (second-readable (c .before .before .before .before .before .before .before .before .before .before .before .before .args .store .now) (c .before .before .before .before .before .before .before .before .before .before .before .before .pre .1 .1 .readable) (c .before .before .before .before .before .before .before .before .before .before .before .before .pre .1 .1 .operator) (⊎-elim (λ w. evaluates-on (c .before .before .before .before .before .before .before .before .before .before .before .before .args .levels - 1) (c .before .before .before .before .before .before .before .before .before .before .before .before .args .frame .now) (c .before .before .before .before .before .before .before .before .before .before .before .before .args .store .now) (c .before .before .before .before .before .before .before .before .before .before .before .before .args .bytes .now) (c .before .before .before .before .before .before .before .before .before .before .before .before .args .at + 1) (all-lent (c .before .before .before .before .before .before .before .before .before .before .before .before .args .store .now) (c .before .before .before .before .before .before .before .before .before .lent .ensures ∙ c .before .before .before .before .before .before .before .before .before .before .before .before .pre .1 .1 .readable .turn .lent)) (w .2) (w .1 .ensures (c .before .before .before .before .before .before .before .before .before .before .before .before .args .levels - 1))) (λ w. evaluates-on (c .before .before .before .before .before .before .before .before .before .before .before .before .args .levels - 1) (c .before .before .before .before .before .before .before .before .before .before .before .before .args .frame .now) (c .before .before .before .before .before .before .before .before .before .before .before .before .args .store .now) (c .before .before .before .before .before .before .before .before .before .before .before .before .args .bytes .now) (c .before .before .before .before .before .before .before .before .before .before .before .before .args .at + 1) (all-lent (c .before .before .before .before .before .before .before .before .before .before .before .before .args .store .now) (c .before .before .before .before .before .before .before .before .before .lent .ensures ∙ c .before .before .before .before .before .before .before .before .before .before .before .before .pre .1 .1 .readable .turn .lent)) (w .2) (w .1 .ensures)) (c .before .before .before .if1 .came)) (λ e. c .before .before .if2 .taken ((rw (c .before .before .before .before .before .before .byte-size .ensures .0) at (c .before .before .before .before .before .operands-of .ensures)) ∙ e))); leaf = sym (c .before .is-leaf2 .ensures) ∙ c .if3 .taken }
 
 eval-eval-requires-2 : (t : ℕ) → eval-lts.Need-eval-requires-2 (calls t) (eval-at t) eval.Post
-eval-eval-requires-2 t c κs = (omega (arith, standing-at (c .before .before .before .before .before .before .before .before .before .before .pre .1 .1 .readable) .level, c .before .before .before .before .before .before .before .before .before .before .pre .0), (c .before .before .before .before .before .before .before .before .before .before .pre .1 .0, record { readable = (second-readable (c .before .before .before .before .before .before .before .before .before .before .args .store .now) (c .before .before .before .before .before .before .before .before .before .before .pre .1 .1 .readable) (c .before .before .before .before .before .before .before .before .before .before .pre .1 .1 .operator) (⊎-elim (λ w. evaluates-as (c .before .before .before .before .before .before .before .before .before .before .args .levels - 1) (c .before .before .before .before .before .before .before .before .before .before .args .frame .now) (c .before .before .before .before .before .before .before .before .before .before .args .store .now) (c .before .before .before .before .before .before .before .before .before .before .args .bytes .now) (c .before .before .before .before .before .before .before .before .before .before .args .at + 1) (w .2) (w .1 .ensures (c .before .before .before .before .before .before .before .before .before .before .args .levels - 1))) (λ w. evaluates-as (c .before .before .before .before .before .before .before .before .before .before .args .levels - 1) (c .before .before .before .before .before .before .before .before .before .before .args .frame .now) (c .before .before .before .before .before .before .before .before .before .before .args .store .now) (c .before .before .before .before .before .before .before .before .before .before .args .bytes .now) (c .before .before .before .before .before .before .before .before .before .before .args .at + 1) (w .2) (w .1 .ensures)) (c .before .before .before .if1 .came)) (λ e. c .before .before .if2 .taken ((rw (c .before .before .before .before .before .before .byte-size .ensures .0) at (c .before .before .before .before .before .operands-of .ensures)) ∙ e))); operator = sym (c .before .is-leaf2 .ensures) ∙ c .if3 .left }))
+eval-eval-requires-2 t c κs = (omega (arith, standing-at (c .before .before .before .before .before .before .before .before .before .before .before .before .pre .1 .1 .readable) .level, c .before .before .before .before .before .before .before .before .before .before .before .before .pre .0), (c .before .before .before .before .before .before .before .before .before .before .before .before .pre .1 .0, record { readable = readable-on (all-lent (c .before .before .before .before .before .before .before .before .before .before .before .before .args .store .now) (c .before .before .before .before .before .before .before .before .before .lent .ensures ∙ c .before .before .before .before .before .before .before .before .before .before .before .before .pre .1 .1 .readable .turn .lent)) (second-readable (c .before .before .before .before .before .before .before .before .before .before .before .before .args .store .now) (c .before .before .before .before .before .before .before .before .before .before .before .before .pre .1 .1 .readable) (c .before .before .before .before .before .before .before .before .before .before .before .before .pre .1 .1 .operator) (⊎-elim (λ w. evaluates-on (c .before .before .before .before .before .before .before .before .before .before .before .before .args .levels - 1) (c .before .before .before .before .before .before .before .before .before .before .before .before .args .frame .now) (c .before .before .before .before .before .before .before .before .before .before .before .before .args .store .now) (c .before .before .before .before .before .before .before .before .before .before .before .before .args .bytes .now) (c .before .before .before .before .before .before .before .before .before .before .before .before .args .at + 1) (all-lent (c .before .before .before .before .before .before .before .before .before .before .before .before .args .store .now) (c .before .before .before .before .before .before .before .before .before .lent .ensures ∙ c .before .before .before .before .before .before .before .before .before .before .before .before .pre .1 .1 .readable .turn .lent)) (w .2) (w .1 .ensures (c .before .before .before .before .before .before .before .before .before .before .before .before .args .levels - 1))) (λ w. evaluates-on (c .before .before .before .before .before .before .before .before .before .before .before .before .args .levels - 1) (c .before .before .before .before .before .before .before .before .before .before .before .before .args .frame .now) (c .before .before .before .before .before .before .before .before .before .before .before .before .args .store .now) (c .before .before .before .before .before .before .before .before .before .before .before .before .args .bytes .now) (c .before .before .before .before .before .before .before .before .before .before .before .before .args .at + 1) (all-lent (c .before .before .before .before .before .before .before .before .before .before .before .before .args .store .now) (c .before .before .before .before .before .before .before .before .before .lent .ensures ∙ c .before .before .before .before .before .before .before .before .before .before .before .before .pre .1 .1 .readable .turn .lent)) (w .2) (w .1 .ensures)) (c .before .before .before .if1 .came)) (λ e. c .before .before .if2 .taken ((rw (c .before .before .before .before .before .before .byte-size .ensures .0) at (c .before .before .before .before .before .operands-of .ensures)) ∙ e))); operator = sym (c .before .is-leaf2 .ensures) ∙ c .if3 .left }))
 
 eval-is-leaf-requires-3 : (t : ℕ) → eval-lts.Need-is-leaf-requires-3 (calls t) (eval-at t) eval.Post
-eval-is-leaf-requires-3 t c κs = standing-at (third-readable (c .before .before .before .before .before .before .before .before .before .before .before .args .store .now) (c .before .before .before .before .before .before .before .before .before .before .before .pre .1 .1 .readable) (c .before .before .before .before .before .before .before .before .before .before .before .pre .1 .1 .operator) (⊎-elim (λ w. evaluates-as (c .before .before .before .before .before .before .before .before .before .before .before .args .levels - 1) (c .before .before .before .before .before .before .before .before .before .before .before .args .frame .now) (c .before .before .before .before .before .before .before .before .before .before .before .args .store .now) (c .before .before .before .before .before .before .before .before .before .before .before .args .bytes .now) (c .before .before .before .before .before .before .before .before .before .before .before .args .at + 1) (w .2) (w .1 .ensures (c .before .before .before .before .before .before .before .before .before .before .before .args .levels - 1))) (λ w. evaluates-as (c .before .before .before .before .before .before .before .before .before .before .before .args .levels - 1) (c .before .before .before .before .before .before .before .before .before .before .before .args .frame .now) (c .before .before .before .before .before .before .before .before .before .before .before .args .store .now) (c .before .before .before .before .before .before .before .before .before .before .before .args .bytes .now) (c .before .before .before .before .before .before .before .before .before .before .before .args .at + 1) (w .2) (w .1 .ensures)) (c .before .before .before .before .if1 .came)) (λ e. c .before .before .before .if2 .taken ((rw (c .before .before .before .before .before .before .before .byte-size .ensures .0) at (c .before .before .before .before .before .before .operands-of .ensures)) ∙ e)) (⊎-elim (λ w. evaluates-as (c .before .before .before .before .before .before .before .before .before .before .before .args .levels - 1) (c .before .before .before .before .before .before .before .before .before .before .before .args .frame .now) (c .before .before .before .before .before .before .before .before .before .before .before .args .store .now) (c .before .before .before .before .before .before .before .before .before .before .before .args .bytes .now) (c .before .before .before .before .if1 .one .next) (w .2) (w .1 .ensures (c .before .before .before .before .before .before .before .before .before .before .before .args .levels - 1))) (λ w. evaluates-as (c .before .before .before .before .before .before .before .before .before .before .before .args .levels - 1) (c .before .before .before .before .before .before .before .before .before .before .before .args .frame .now) (c .before .before .before .before .before .before .before .before .before .before .before .args .store .now) (c .before .before .before .before .before .before .before .before .before .before .before .args .bytes .now) (c .before .before .before .before .if1 .one .next) (w .2) (w .1 .ensures)) (c .before .if3 .came)) (sym (rw (c .before .before .before .before .before .before .before .byte-size .ensures .0) at (c .before .before .before .before .before .before .operands-of .ensures)) ∙ c .if4 .taken)) .body
+eval-is-leaf-requires-3 t c κs = standing-at (third-readable (c .before .before .before .before .before .before .before .before .before .before .before .before .before .args .store .now) (c .before .before .before .before .before .before .before .before .before .before .before .before .before .pre .1 .1 .readable) (c .before .before .before .before .before .before .before .before .before .before .before .before .before .pre .1 .1 .operator) (⊎-elim (λ w. evaluates-on (c .before .before .before .before .before .before .before .before .before .before .before .before .before .args .levels - 1) (c .before .before .before .before .before .before .before .before .before .before .before .before .before .args .frame .now) (c .before .before .before .before .before .before .before .before .before .before .before .before .before .args .store .now) (c .before .before .before .before .before .before .before .before .before .before .before .before .before .args .bytes .now) (c .before .before .before .before .before .before .before .before .before .before .before .before .before .args .at + 1) (all-lent (c .before .before .before .before .before .before .before .before .before .before .before .before .before .args .store .now) (c .before .before .before .before .before .before .before .before .before .before .lent .ensures ∙ c .before .before .before .before .before .before .before .before .before .before .before .before .before .pre .1 .1 .readable .turn .lent)) (w .2) (w .1 .ensures (c .before .before .before .before .before .before .before .before .before .before .before .before .before .args .levels - 1))) (λ w. evaluates-on (c .before .before .before .before .before .before .before .before .before .before .before .before .before .args .levels - 1) (c .before .before .before .before .before .before .before .before .before .before .before .before .before .args .frame .now) (c .before .before .before .before .before .before .before .before .before .before .before .before .before .args .store .now) (c .before .before .before .before .before .before .before .before .before .before .before .before .before .args .bytes .now) (c .before .before .before .before .before .before .before .before .before .before .before .before .before .args .at + 1) (all-lent (c .before .before .before .before .before .before .before .before .before .before .before .before .before .args .store .now) (c .before .before .before .before .before .before .before .before .before .before .lent .ensures ∙ c .before .before .before .before .before .before .before .before .before .before .before .before .before .pre .1 .1 .readable .turn .lent)) (w .2) (w .1 .ensures)) (c .before .before .before .before .if1 .came)) (λ e. c .before .before .before .if2 .taken ((rw (c .before .before .before .before .before .before .before .byte-size .ensures .0) at (c .before .before .before .before .before .before .operands-of .ensures)) ∙ e)) (⊎-elim (λ w. evaluates-on (c .before .before .before .before .before .before .before .before .before .before .before .before .before .args .levels - 1) (c .before .before .before .before .before .before .before .before .before .before .before .before .before .args .frame .now) (c .before .before .before .before .before .before .before .before .before .before .before .before .before .args .store .now) (c .before .before .before .before .before .before .before .before .before .before .before .before .before .args .bytes .now) (c .before .before .before .before .if1 .one .next) (all-lent (c .before .before .before .before .before .before .before .before .before .before .before .before .before .args .store .now) (c .before .before .before .before .before .before .before .before .before .before .lent .ensures ∙ c .before .before .before .before .before .before .before .before .before .before .before .before .before .pre .1 .1 .readable .turn .lent)) (w .2) (w .1 .ensures (c .before .before .before .before .before .before .before .before .before .before .before .before .before .args .levels - 1))) (λ w. evaluates-on (c .before .before .before .before .before .before .before .before .before .before .before .before .before .args .levels - 1) (c .before .before .before .before .before .before .before .before .before .before .before .before .before .args .frame .now) (c .before .before .before .before .before .before .before .before .before .before .before .before .before .args .store .now) (c .before .before .before .before .before .before .before .before .before .before .before .before .before .args .bytes .now) (c .before .before .before .before .if1 .one .next) (all-lent (c .before .before .before .before .before .before .before .before .before .before .before .before .before .args .store .now) (c .before .before .before .before .before .before .before .before .before .before .lent .ensures ∙ c .before .before .before .before .before .before .before .before .before .before .before .before .before .pre .1 .1 .readable .turn .lent)) (w .2) (w .1 .ensures)) (c .before .if3 .came)) (sym (rw (c .before .before .before .before .before .before .before .byte-size .ensures .0) at (c .before .before .before .before .before .before .operands-of .ensures)) ∙ c .if4 .taken)) .body
 
 eval-leaf-requires-3 : (t : ℕ) → eval-lts.Need-leaf-requires-3 (calls t) (eval-at t) eval.Post
-eval-leaf-requires-3 t c κs = record { levels = c .before .before .before .before .before .before .before .before .before .before .before .before .before .args .levels - 1; readable = (third-readable (c .before .before .before .before .before .before .before .before .before .before .before .before .before .args .store .now) (c .before .before .before .before .before .before .before .before .before .before .before .before .before .pre .1 .1 .readable) (c .before .before .before .before .before .before .before .before .before .before .before .before .before .pre .1 .1 .operator) (⊎-elim (λ w. evaluates-as (c .before .before .before .before .before .before .before .before .before .before .before .before .before .args .levels - 1) (c .before .before .before .before .before .before .before .before .before .before .before .before .before .args .frame .now) (c .before .before .before .before .before .before .before .before .before .before .before .before .before .args .store .now) (c .before .before .before .before .before .before .before .before .before .before .before .before .before .args .bytes .now) (c .before .before .before .before .before .before .before .before .before .before .before .before .before .args .at + 1) (w .2) (w .1 .ensures (c .before .before .before .before .before .before .before .before .before .before .before .before .before .args .levels - 1))) (λ w. evaluates-as (c .before .before .before .before .before .before .before .before .before .before .before .before .before .args .levels - 1) (c .before .before .before .before .before .before .before .before .before .before .before .before .before .args .frame .now) (c .before .before .before .before .before .before .before .before .before .before .before .before .before .args .store .now) (c .before .before .before .before .before .before .before .before .before .before .before .before .before .args .bytes .now) (c .before .before .before .before .before .before .before .before .before .before .before .before .before .args .at + 1) (w .2) (w .1 .ensures)) (c .before .before .before .before .before .before .if1 .came)) (λ e. c .before .before .before .before .before .if2 .taken ((rw (c .before .before .before .before .before .before .before .before .before .byte-size .ensures .0) at (c .before .before .before .before .before .before .before .before .operands-of .ensures)) ∙ e)) (⊎-elim (λ w. evaluates-as (c .before .before .before .before .before .before .before .before .before .before .before .before .before .args .levels - 1) (c .before .before .before .before .before .before .before .before .before .before .before .before .before .args .frame .now) (c .before .before .before .before .before .before .before .before .before .before .before .before .before .args .store .now) (c .before .before .before .before .before .before .before .before .before .before .before .before .before .args .bytes .now) (c .before .before .before .before .before .before .if1 .one .next) (w .2) (w .1 .ensures (c .before .before .before .before .before .before .before .before .before .before .before .before .before .args .levels - 1))) (λ w. evaluates-as (c .before .before .before .before .before .before .before .before .before .before .before .before .before .args .levels - 1) (c .before .before .before .before .before .before .before .before .before .before .before .before .before .args .frame .now) (c .before .before .before .before .before .before .before .before .before .before .before .before .before .args .store .now) (c .before .before .before .before .before .before .before .before .before .before .before .before .before .args .bytes .now) (c .before .before .before .before .before .before .if1 .one .next) (w .2) (w .1 .ensures)) (c .before .before .before .if3 .came)) (sym (rw (c .before .before .before .before .before .before .before .before .before .byte-size .ensures .0) at (c .before .before .before .before .before .before .before .before .operands-of .ensures)) ∙ c .before .before .if4 .taken)); leaf = sym (c .before .is-leaf3 .ensures) ∙ c .if5 .taken }
+eval-leaf-requires-3 t c κs = record { levels = c .before .before .before .before .before .before .before .before .before .before .before .before .before .before .before .args .levels - 1; readable = readable-on (all-lent (c .before .before .before .before .before .before .before .before .before .before .before .before .before .before .before .args .store .now) (c .before .before .before .before .before .before .before .before .before .before .before .before .lent .ensures ∙ c .before .before .before .before .before .before .before .before .before .before .before .before .before .before .before .pre .1 .1 .readable .turn .lent)) (third-readable (c .before .before .before .before .before .before .before .before .before .before .before .before .before .before .before .args .store .now) (c .before .before .before .before .before .before .before .before .before .before .before .before .before .before .before .pre .1 .1 .readable) (c .before .before .before .before .before .before .before .before .before .before .before .before .before .before .before .pre .1 .1 .operator) (⊎-elim (λ w. evaluates-on (c .before .before .before .before .before .before .before .before .before .before .before .before .before .before .before .args .levels - 1) (c .before .before .before .before .before .before .before .before .before .before .before .before .before .before .before .args .frame .now) (c .before .before .before .before .before .before .before .before .before .before .before .before .before .before .before .args .store .now) (c .before .before .before .before .before .before .before .before .before .before .before .before .before .before .before .args .bytes .now) (c .before .before .before .before .before .before .before .before .before .before .before .before .before .before .before .args .at + 1) (all-lent (c .before .before .before .before .before .before .before .before .before .before .before .before .before .before .before .args .store .now) (c .before .before .before .before .before .before .before .before .before .before .before .before .lent .ensures ∙ c .before .before .before .before .before .before .before .before .before .before .before .before .before .before .before .pre .1 .1 .readable .turn .lent)) (w .2) (w .1 .ensures (c .before .before .before .before .before .before .before .before .before .before .before .before .before .before .before .args .levels - 1))) (λ w. evaluates-on (c .before .before .before .before .before .before .before .before .before .before .before .before .before .before .before .args .levels - 1) (c .before .before .before .before .before .before .before .before .before .before .before .before .before .before .before .args .frame .now) (c .before .before .before .before .before .before .before .before .before .before .before .before .before .before .before .args .store .now) (c .before .before .before .before .before .before .before .before .before .before .before .before .before .before .before .args .bytes .now) (c .before .before .before .before .before .before .before .before .before .before .before .before .before .before .before .args .at + 1) (all-lent (c .before .before .before .before .before .before .before .before .before .before .before .before .before .before .before .args .store .now) (c .before .before .before .before .before .before .before .before .before .before .before .before .lent .ensures ∙ c .before .before .before .before .before .before .before .before .before .before .before .before .before .before .before .pre .1 .1 .readable .turn .lent)) (w .2) (w .1 .ensures)) (c .before .before .before .before .before .before .if1 .came)) (λ e. c .before .before .before .before .before .if2 .taken ((rw (c .before .before .before .before .before .before .before .before .before .byte-size .ensures .0) at (c .before .before .before .before .before .before .before .before .operands-of .ensures)) ∙ e)) (⊎-elim (λ w. evaluates-on (c .before .before .before .before .before .before .before .before .before .before .before .before .before .before .before .args .levels - 1) (c .before .before .before .before .before .before .before .before .before .before .before .before .before .before .before .args .frame .now) (c .before .before .before .before .before .before .before .before .before .before .before .before .before .before .before .args .store .now) (c .before .before .before .before .before .before .before .before .before .before .before .before .before .before .before .args .bytes .now) (c .before .before .before .before .before .before .if1 .one .next) (all-lent (c .before .before .before .before .before .before .before .before .before .before .before .before .before .before .before .args .store .now) (c .before .before .before .before .before .before .before .before .before .before .before .before .lent .ensures ∙ c .before .before .before .before .before .before .before .before .before .before .before .before .before .before .before .pre .1 .1 .readable .turn .lent)) (w .2) (w .1 .ensures (c .before .before .before .before .before .before .before .before .before .before .before .before .before .before .before .args .levels - 1))) (λ w. evaluates-on (c .before .before .before .before .before .before .before .before .before .before .before .before .before .before .before .args .levels - 1) (c .before .before .before .before .before .before .before .before .before .before .before .before .before .before .before .args .frame .now) (c .before .before .before .before .before .before .before .before .before .before .before .before .before .before .before .args .store .now) (c .before .before .before .before .before .before .before .before .before .before .before .before .before .before .before .args .bytes .now) (c .before .before .before .before .before .before .if1 .one .next) (all-lent (c .before .before .before .before .before .before .before .before .before .before .before .before .before .before .before .args .store .now) (c .before .before .before .before .before .before .before .before .before .before .before .before .lent .ensures ∙ c .before .before .before .before .before .before .before .before .before .before .before .before .before .before .before .pre .1 .1 .readable .turn .lent)) (w .2) (w .1 .ensures)) (c .before .before .before .if3 .came)) (sym (rw (c .before .before .before .before .before .before .before .before .before .byte-size .ensures .0) at (c .before .before .before .before .before .before .before .before .operands-of .ensures)) ∙ c .before .before .if4 .taken)); leaf = sym (c .before .is-leaf3 .ensures) ∙ c .if5 .taken }
 
 eval-eval-requires-3 : (t : ℕ) → eval-lts.Need-eval-requires-3 (calls t) (eval-at t) eval.Post
-eval-eval-requires-3 t c κs = (omega (arith, standing-at (c .before .before .before .before .before .before .before .before .before .before .before .before .before .pre .1 .1 .readable) .level, c .before .before .before .before .before .before .before .before .before .before .before .before .before .pre .0), (c .before .before .before .before .before .before .before .before .before .before .before .before .before .pre .1 .0, record { readable = (third-readable (c .before .before .before .before .before .before .before .before .before .before .before .before .before .args .store .now) (c .before .before .before .before .before .before .before .before .before .before .before .before .before .pre .1 .1 .readable) (c .before .before .before .before .before .before .before .before .before .before .before .before .before .pre .1 .1 .operator) (⊎-elim (λ w. evaluates-as (c .before .before .before .before .before .before .before .before .before .before .before .before .before .args .levels - 1) (c .before .before .before .before .before .before .before .before .before .before .before .before .before .args .frame .now) (c .before .before .before .before .before .before .before .before .before .before .before .before .before .args .store .now) (c .before .before .before .before .before .before .before .before .before .before .before .before .before .args .bytes .now) (c .before .before .before .before .before .before .before .before .before .before .before .before .before .args .at + 1) (w .2) (w .1 .ensures (c .before .before .before .before .before .before .before .before .before .before .before .before .before .args .levels - 1))) (λ w. evaluates-as (c .before .before .before .before .before .before .before .before .before .before .before .before .before .args .levels - 1) (c .before .before .before .before .before .before .before .before .before .before .before .before .before .args .frame .now) (c .before .before .before .before .before .before .before .before .before .before .before .before .before .args .store .now) (c .before .before .before .before .before .before .before .before .before .before .before .before .before .args .bytes .now) (c .before .before .before .before .before .before .before .before .before .before .before .before .before .args .at + 1) (w .2) (w .1 .ensures)) (c .before .before .before .before .before .before .if1 .came)) (λ e. c .before .before .before .before .before .if2 .taken ((rw (c .before .before .before .before .before .before .before .before .before .byte-size .ensures .0) at (c .before .before .before .before .before .before .before .before .operands-of .ensures)) ∙ e)) (⊎-elim (λ w. evaluates-as (c .before .before .before .before .before .before .before .before .before .before .before .before .before .args .levels - 1) (c .before .before .before .before .before .before .before .before .before .before .before .before .before .args .frame .now) (c .before .before .before .before .before .before .before .before .before .before .before .before .before .args .store .now) (c .before .before .before .before .before .before .before .before .before .before .before .before .before .args .bytes .now) (c .before .before .before .before .before .before .if1 .one .next) (w .2) (w .1 .ensures (c .before .before .before .before .before .before .before .before .before .before .before .before .before .args .levels - 1))) (λ w. evaluates-as (c .before .before .before .before .before .before .before .before .before .before .before .before .before .args .levels - 1) (c .before .before .before .before .before .before .before .before .before .before .before .before .before .args .frame .now) (c .before .before .before .before .before .before .before .before .before .before .before .before .before .args .store .now) (c .before .before .before .before .before .before .before .before .before .before .before .before .before .args .bytes .now) (c .before .before .before .before .before .before .if1 .one .next) (w .2) (w .1 .ensures)) (c .before .before .before .if3 .came)) (sym (rw (c .before .before .before .before .before .before .before .before .before .byte-size .ensures .0) at (c .before .before .before .before .before .before .before .before .operands-of .ensures)) ∙ c .before .before .if4 .taken)); operator = sym (c .before .is-leaf3 .ensures) ∙ c .if5 .left }))
+eval-eval-requires-3 t c κs = (omega (arith, standing-at (c .before .before .before .before .before .before .before .before .before .before .before .before .before .before .before .pre .1 .1 .readable) .level, c .before .before .before .before .before .before .before .before .before .before .before .before .before .before .before .pre .0), (c .before .before .before .before .before .before .before .before .before .before .before .before .before .before .before .pre .1 .0, record { readable = readable-on (all-lent (c .before .before .before .before .before .before .before .before .before .before .before .before .before .before .before .args .store .now) (c .before .before .before .before .before .before .before .before .before .before .before .before .lent .ensures ∙ c .before .before .before .before .before .before .before .before .before .before .before .before .before .before .before .pre .1 .1 .readable .turn .lent)) (third-readable (c .before .before .before .before .before .before .before .before .before .before .before .before .before .before .before .args .store .now) (c .before .before .before .before .before .before .before .before .before .before .before .before .before .before .before .pre .1 .1 .readable) (c .before .before .before .before .before .before .before .before .before .before .before .before .before .before .before .pre .1 .1 .operator) (⊎-elim (λ w. evaluates-on (c .before .before .before .before .before .before .before .before .before .before .before .before .before .before .before .args .levels - 1) (c .before .before .before .before .before .before .before .before .before .before .before .before .before .before .before .args .frame .now) (c .before .before .before .before .before .before .before .before .before .before .before .before .before .before .before .args .store .now) (c .before .before .before .before .before .before .before .before .before .before .before .before .before .before .before .args .bytes .now) (c .before .before .before .before .before .before .before .before .before .before .before .before .before .before .before .args .at + 1) (all-lent (c .before .before .before .before .before .before .before .before .before .before .before .before .before .before .before .args .store .now) (c .before .before .before .before .before .before .before .before .before .before .before .before .lent .ensures ∙ c .before .before .before .before .before .before .before .before .before .before .before .before .before .before .before .pre .1 .1 .readable .turn .lent)) (w .2) (w .1 .ensures (c .before .before .before .before .before .before .before .before .before .before .before .before .before .before .before .args .levels - 1))) (λ w. evaluates-on (c .before .before .before .before .before .before .before .before .before .before .before .before .before .before .before .args .levels - 1) (c .before .before .before .before .before .before .before .before .before .before .before .before .before .before .before .args .frame .now) (c .before .before .before .before .before .before .before .before .before .before .before .before .before .before .before .args .store .now) (c .before .before .before .before .before .before .before .before .before .before .before .before .before .before .before .args .bytes .now) (c .before .before .before .before .before .before .before .before .before .before .before .before .before .before .before .args .at + 1) (all-lent (c .before .before .before .before .before .before .before .before .before .before .before .before .before .before .before .args .store .now) (c .before .before .before .before .before .before .before .before .before .before .before .before .lent .ensures ∙ c .before .before .before .before .before .before .before .before .before .before .before .before .before .before .before .pre .1 .1 .readable .turn .lent)) (w .2) (w .1 .ensures)) (c .before .before .before .before .before .before .if1 .came)) (λ e. c .before .before .before .before .before .if2 .taken ((rw (c .before .before .before .before .before .before .before .before .before .byte-size .ensures .0) at (c .before .before .before .before .before .before .before .before .operands-of .ensures)) ∙ e)) (⊎-elim (λ w. evaluates-on (c .before .before .before .before .before .before .before .before .before .before .before .before .before .before .before .args .levels - 1) (c .before .before .before .before .before .before .before .before .before .before .before .before .before .before .before .args .frame .now) (c .before .before .before .before .before .before .before .before .before .before .before .before .before .before .before .args .store .now) (c .before .before .before .before .before .before .before .before .before .before .before .before .before .before .before .args .bytes .now) (c .before .before .before .before .before .before .if1 .one .next) (all-lent (c .before .before .before .before .before .before .before .before .before .before .before .before .before .before .before .args .store .now) (c .before .before .before .before .before .before .before .before .before .before .before .before .lent .ensures ∙ c .before .before .before .before .before .before .before .before .before .before .before .before .before .before .before .pre .1 .1 .readable .turn .lent)) (w .2) (w .1 .ensures (c .before .before .before .before .before .before .before .before .before .before .before .before .before .before .before .args .levels - 1))) (λ w. evaluates-on (c .before .before .before .before .before .before .before .before .before .before .before .before .before .before .before .args .levels - 1) (c .before .before .before .before .before .before .before .before .before .before .before .before .before .before .before .args .frame .now) (c .before .before .before .before .before .before .before .before .before .before .before .before .before .before .before .args .store .now) (c .before .before .before .before .before .before .before .before .before .before .before .before .before .before .before .args .bytes .now) (c .before .before .before .before .before .before .if1 .one .next) (all-lent (c .before .before .before .before .before .before .before .before .before .before .before .before .before .before .before .args .store .now) (c .before .before .before .before .before .before .before .before .before .before .before .before .lent .ensures ∙ c .before .before .before .before .before .before .before .before .before .before .before .before .before .before .before .pre .1 .1 .readable .turn .lent)) (w .2) (w .1 .ensures)) (c .before .before .before .if3 .came)) (sym (rw (c .before .before .before .before .before .before .before .before .before .byte-size .ensures .0) at (c .before .before .before .before .before .before .before .before .operands-of .ensures)) ∙ c .before .before .if4 .taken)); operator = sym (c .before .is-leaf3 .ensures) ∙ c .if5 .left }))
 
 eval-returns : (t : ℕ) → eval-lts.Need-returns (calls t) (eval-at t) eval.Post
-eval-returns t c = λ x. c .valued .ensures ∙ three-give (c .before .before .before .before .before .before .before .before .before .before .before .before .before .before .before .args .store .now) x (c .before .before .before .before .before .before .before .before .before .before .before .before .before .before .before .pre .1 .1 .operator) (⊎-elim (λ w. evaluates-as (c .before .before .before .before .before .before .before .before .before .before .before .before .before .before .before .args .levels - 1) (c .before .before .before .before .before .before .before .before .before .before .before .before .before .before .before .args .frame .now) (c .before .before .before .before .before .before .before .before .before .before .before .before .before .before .before .args .store .now) (c .before .before .before .before .before .before .before .before .before .before .before .before .before .before .before .args .bytes .now) (c .before .before .before .before .before .before .before .before .before .before .before .before .before .before .before .args .at + 1) (w .2) (w .1 .ensures (c .before .before .before .before .before .before .before .before .before .before .before .before .before .before .before .args .levels - 1))) (λ w. evaluates-as (c .before .before .before .before .before .before .before .before .before .before .before .before .before .before .before .args .levels - 1) (c .before .before .before .before .before .before .before .before .before .before .before .before .before .before .before .args .frame .now) (c .before .before .before .before .before .before .before .before .before .before .before .before .before .before .before .args .store .now) (c .before .before .before .before .before .before .before .before .before .before .before .before .before .before .before .args .bytes .now) (c .before .before .before .before .before .before .before .before .before .before .before .before .before .before .before .args .at + 1) (w .2) (w .1 .ensures)) (c .before .before .before .before .before .before .before .before .if1 .came)) (λ e. c .before .before .before .before .before .before .before .if2 .taken ((rw (c .before .before .before .before .before .before .before .before .before .before .before .byte-size .ensures .0) at (c .before .before .before .before .before .before .before .before .before .before .operands-of .ensures)) ∙ e)) (⊎-elim (λ w. evaluates-as (c .before .before .before .before .before .before .before .before .before .before .before .before .before .before .before .args .levels - 1) (c .before .before .before .before .before .before .before .before .before .before .before .before .before .before .before .args .frame .now) (c .before .before .before .before .before .before .before .before .before .before .before .before .before .before .before .args .store .now) (c .before .before .before .before .before .before .before .before .before .before .before .before .before .before .before .args .bytes .now) (c .before .before .before .before .before .before .before .before .if1 .one .next) (w .2) (w .1 .ensures (c .before .before .before .before .before .before .before .before .before .before .before .before .before .before .before .args .levels - 1))) (λ w. evaluates-as (c .before .before .before .before .before .before .before .before .before .before .before .before .before .before .before .args .levels - 1) (c .before .before .before .before .before .before .before .before .before .before .before .before .before .before .before .args .frame .now) (c .before .before .before .before .before .before .before .before .before .before .before .before .before .before .before .args .store .now) (c .before .before .before .before .before .before .before .before .before .before .before .before .before .before .before .args .bytes .now) (c .before .before .before .before .before .before .before .before .if1 .one .next) (w .2) (w .1 .ensures)) (c .before .before .before .before .before .if3 .came)) (sym (rw (c .before .before .before .before .before .before .before .before .before .before .before .byte-size .ensures .0) at (c .before .before .before .before .before .before .before .before .before .before .operands-of .ensures)) ∙ c .before .before .before .before .if4 .taken) (⊎-elim (λ w. evaluates-as (c .before .before .before .before .before .before .before .before .before .before .before .before .before .before .before .args .levels - 1) (c .before .before .before .before .before .before .before .before .before .before .before .before .before .before .before .args .frame .now) (c .before .before .before .before .before .before .before .before .before .before .before .before .before .before .before .args .store .now) (c .before .before .before .before .before .before .before .before .before .before .before .before .before .before .before .args .bytes .now) (c .before .before .before .before .before .if3 .two .next) (w .2) (w .1 .ensures (c .before .before .before .before .before .before .before .before .before .before .before .before .before .before .before .args .levels - 1))) (λ w. evaluates-as (c .before .before .before .before .before .before .before .before .before .before .before .before .before .before .before .args .levels - 1) (c .before .before .before .before .before .before .before .before .before .before .before .before .before .before .before .args .frame .now) (c .before .before .before .before .before .before .before .before .before .before .before .before .before .before .before .args .store .now) (c .before .before .before .before .before .before .before .before .before .before .before .before .before .before .before .args .bytes .now) (c .before .before .before .before .before .if3 .two .next) (w .2) (w .1 .ensures)) (c .before .before .if5 .came)) (c .before .choose .ensures)
+eval-returns t c = λ x. c .valued .ensures ∙ three-give (c .before .before .before .before .before .before .before .before .before .before .before .before .before .before .before .before .before .args .store .now) x (c .before .before .before .before .before .before .before .before .before .before .before .before .before .before .before .before .before .pre .1 .1 .operator) (⊎-elim (λ w. evaluates-on (c .before .before .before .before .before .before .before .before .before .before .before .before .before .before .before .before .before .args .levels - 1) (c .before .before .before .before .before .before .before .before .before .before .before .before .before .before .before .before .before .args .frame .now) (c .before .before .before .before .before .before .before .before .before .before .before .before .before .before .before .before .before .args .store .now) (c .before .before .before .before .before .before .before .before .before .before .before .before .before .before .before .before .before .args .bytes .now) (c .before .before .before .before .before .before .before .before .before .before .before .before .before .before .before .before .before .args .at + 1) (all-lent (c .before .before .before .before .before .before .before .before .before .before .before .before .before .before .before .before .before .args .store .now) (c .before .before .before .before .before .before .before .before .before .before .before .before .before .before .lent .ensures ∙ c .before .before .before .before .before .before .before .before .before .before .before .before .before .before .before .before .before .pre .1 .1 .readable .turn .lent)) (w .2) (w .1 .ensures (c .before .before .before .before .before .before .before .before .before .before .before .before .before .before .before .before .before .args .levels - 1))) (λ w. evaluates-on (c .before .before .before .before .before .before .before .before .before .before .before .before .before .before .before .before .before .args .levels - 1) (c .before .before .before .before .before .before .before .before .before .before .before .before .before .before .before .before .before .args .frame .now) (c .before .before .before .before .before .before .before .before .before .before .before .before .before .before .before .before .before .args .store .now) (c .before .before .before .before .before .before .before .before .before .before .before .before .before .before .before .before .before .args .bytes .now) (c .before .before .before .before .before .before .before .before .before .before .before .before .before .before .before .before .before .args .at + 1) (all-lent (c .before .before .before .before .before .before .before .before .before .before .before .before .before .before .before .before .before .args .store .now) (c .before .before .before .before .before .before .before .before .before .before .before .before .before .before .lent .ensures ∙ c .before .before .before .before .before .before .before .before .before .before .before .before .before .before .before .before .before .pre .1 .1 .readable .turn .lent)) (w .2) (w .1 .ensures)) (c .before .before .before .before .before .before .before .before .if1 .came)) (λ e. c .before .before .before .before .before .before .before .if2 .taken ((rw (c .before .before .before .before .before .before .before .before .before .before .before .byte-size .ensures .0) at (c .before .before .before .before .before .before .before .before .before .before .operands-of .ensures)) ∙ e)) (⊎-elim (λ w. evaluates-on (c .before .before .before .before .before .before .before .before .before .before .before .before .before .before .before .before .before .args .levels - 1) (c .before .before .before .before .before .before .before .before .before .before .before .before .before .before .before .before .before .args .frame .now) (c .before .before .before .before .before .before .before .before .before .before .before .before .before .before .before .before .before .args .store .now) (c .before .before .before .before .before .before .before .before .before .before .before .before .before .before .before .before .before .args .bytes .now) (c .before .before .before .before .before .before .before .before .if1 .one .next) (all-lent (c .before .before .before .before .before .before .before .before .before .before .before .before .before .before .before .before .before .args .store .now) (c .before .before .before .before .before .before .before .before .before .before .before .before .before .before .lent .ensures ∙ c .before .before .before .before .before .before .before .before .before .before .before .before .before .before .before .before .before .pre .1 .1 .readable .turn .lent)) (w .2) (w .1 .ensures (c .before .before .before .before .before .before .before .before .before .before .before .before .before .before .before .before .before .args .levels - 1))) (λ w. evaluates-on (c .before .before .before .before .before .before .before .before .before .before .before .before .before .before .before .before .before .args .levels - 1) (c .before .before .before .before .before .before .before .before .before .before .before .before .before .before .before .before .before .args .frame .now) (c .before .before .before .before .before .before .before .before .before .before .before .before .before .before .before .before .before .args .store .now) (c .before .before .before .before .before .before .before .before .before .before .before .before .before .before .before .before .before .args .bytes .now) (c .before .before .before .before .before .before .before .before .if1 .one .next) (all-lent (c .before .before .before .before .before .before .before .before .before .before .before .before .before .before .before .before .before .args .store .now) (c .before .before .before .before .before .before .before .before .before .before .before .before .before .before .lent .ensures ∙ c .before .before .before .before .before .before .before .before .before .before .before .before .before .before .before .before .before .pre .1 .1 .readable .turn .lent)) (w .2) (w .1 .ensures)) (c .before .before .before .before .before .if3 .came)) (sym (rw (c .before .before .before .before .before .before .before .before .before .before .before .byte-size .ensures .0) at (c .before .before .before .before .before .before .before .before .before .before .operands-of .ensures)) ∙ c .before .before .before .before .if4 .taken) (⊎-elim (λ w. evaluates-on (c .before .before .before .before .before .before .before .before .before .before .before .before .before .before .before .before .before .args .levels - 1) (c .before .before .before .before .before .before .before .before .before .before .before .before .before .before .before .before .before .args .frame .now) (c .before .before .before .before .before .before .before .before .before .before .before .before .before .before .before .before .before .args .store .now) (c .before .before .before .before .before .before .before .before .before .before .before .before .before .before .before .before .before .args .bytes .now) (c .before .before .before .before .before .if3 .two .next) (all-lent (c .before .before .before .before .before .before .before .before .before .before .before .before .before .before .before .before .before .args .store .now) (c .before .before .before .before .before .before .before .before .before .before .before .before .before .before .lent .ensures ∙ c .before .before .before .before .before .before .before .before .before .before .before .before .before .before .before .before .before .pre .1 .1 .readable .turn .lent)) (w .2) (w .1 .ensures (c .before .before .before .before .before .before .before .before .before .before .before .before .before .before .before .before .before .args .levels - 1))) (λ w. evaluates-on (c .before .before .before .before .before .before .before .before .before .before .before .before .before .before .before .before .before .args .levels - 1) (c .before .before .before .before .before .before .before .before .before .before .before .before .before .before .before .before .before .args .frame .now) (c .before .before .before .before .before .before .before .before .before .before .before .before .before .before .before .before .before .args .store .now) (c .before .before .before .before .before .before .before .before .before .before .before .before .before .before .before .before .before .args .bytes .now) (c .before .before .before .before .before .if3 .two .next) (all-lent (c .before .before .before .before .before .before .before .before .before .before .before .before .before .before .before .before .before .args .store .now) (c .before .before .before .before .before .before .before .before .before .before .before .before .before .before .lent .ensures ∙ c .before .before .before .before .before .before .before .before .before .before .before .before .before .before .before .before .before .pre .1 .1 .readable .turn .lent)) (w .2) (w .1 .ensures)) (c .before .before .if5 .came)) (c .before .choose .ensures)
 
 eval-returns-2 : (t : ℕ) → eval-lts.Need-returns-2 (calls t) (eval-at t) eval.Post
 eval-returns-2 t c = λ x. c .valued2 .ensures ∙ ⊎-elim
-    (λ w. two-give (c .before .before .before .before .before .before .before .before .before .before .args .store .now) x (c .before .before .before .before .before .before .before .before .before .before .pre .1 .1 .operator) (⊎-elim (λ w. evaluates-as (c .before .before .before .before .before .before .before .before .before .before .args .levels - 1) (c .before .before .before .before .before .before .before .before .before .before .args .frame .now) (c .before .before .before .before .before .before .before .before .before .before .args .store .now) (c .before .before .before .before .before .before .before .before .before .before .args .bytes .now) (c .before .before .before .before .before .before .before .before .before .before .args .at + 1) (w .2) (w .1 .ensures (c .before .before .before .before .before .before .before .before .before .before .args .levels - 1))) (λ w. evaluates-as (c .before .before .before .before .before .before .before .before .before .before .args .levels - 1) (c .before .before .before .before .before .before .before .before .before .before .args .frame .now) (c .before .before .before .before .before .before .before .before .before .before .args .store .now) (c .before .before .before .before .before .before .before .before .before .before .args .bytes .now) (c .before .before .before .before .before .before .before .before .before .before .args .at + 1) (w .2) (w .1 .ensures)) (c .before .before .before .if1 .came)) (λ e. w .0 .taken ((rw (c .before .before .before .before .before .before .byte-size .ensures .0) at (c .before .before .before .before .before .operands-of .ensures)) ∙ e)) (⊎-elim (λ w. evaluates-as (c .before .before .before .before .before .before .before .before .before .before .args .levels - 1) (c .before .before .before .before .before .before .before .before .before .before .args .frame .now) (c .before .before .before .before .before .before .before .before .before .before .args .store .now) (c .before .before .before .before .before .before .before .before .before .before .args .bytes .now) (c .before .before .before .if1 .one .next) (w .2) (w .1 .ensures (c .before .before .before .before .before .before .before .before .before .before .args .levels - 1))) (λ w. evaluates-as (c .before .before .before .before .before .before .before .before .before .before .args .levels - 1) (c .before .before .before .before .before .before .before .before .before .before .args .frame .now) (c .before .before .before .before .before .before .before .before .before .before .args .store .now) (c .before .before .before .before .before .before .before .before .before .before .args .bytes .now) (c .before .before .before .if1 .one .next) (w .2) (w .1 .ensures)) (w .2 .came)) (λ e. w .3 .left ((rw (c .before .before .before .before .before .before .byte-size .ensures .0) at (c .before .before .before .before .before .operands-of .ensures)) ∙ e)) (w .4) (w .5) (c .before .apply .ensures))
-    (λ w. one-gives (c .before .before .before .before .before .before .before .before .before .before .args .store .now) x (c .before .before .before .before .before .before .before .before .before .before .pre .1 .1 .operator) (⊎-elim (λ w. evaluates-as (c .before .before .before .before .before .before .before .before .before .before .args .levels - 1) (c .before .before .before .before .before .before .before .before .before .before .args .frame .now) (c .before .before .before .before .before .before .before .before .before .before .args .store .now) (c .before .before .before .before .before .before .before .before .before .before .args .bytes .now) (c .before .before .before .before .before .before .before .before .before .before .args .at + 1) (w .2) (w .1 .ensures (c .before .before .before .before .before .before .before .before .before .before .args .levels - 1))) (λ w. evaluates-as (c .before .before .before .before .before .before .before .before .before .before .args .levels - 1) (c .before .before .before .before .before .before .before .before .before .before .args .frame .now) (c .before .before .before .before .before .before .before .before .before .before .args .store .now) (c .before .before .before .before .before .before .before .before .before .before .args .bytes .now) (c .before .before .before .before .before .before .before .before .before .before .args .at + 1) (w .2) (w .1 .ensures)) (c .before .before .before .if1 .came)) (sym (rw (c .before .before .before .before .before .before .byte-size .ensures .0) at (c .before .before .before .before .before .operands-of .ensures)) ∙ w .0 .left) (w .1) (w .2) (c .before .apply .ensures))
+    (λ w. two-give (c .before .before .before .before .before .before .before .before .before .before .before .before .args .store .now) x (c .before .before .before .before .before .before .before .before .before .before .before .before .pre .1 .1 .operator) (⊎-elim (λ w. evaluates-on (c .before .before .before .before .before .before .before .before .before .before .before .before .args .levels - 1) (c .before .before .before .before .before .before .before .before .before .before .before .before .args .frame .now) (c .before .before .before .before .before .before .before .before .before .before .before .before .args .store .now) (c .before .before .before .before .before .before .before .before .before .before .before .before .args .bytes .now) (c .before .before .before .before .before .before .before .before .before .before .before .before .args .at + 1) (all-lent (c .before .before .before .before .before .before .before .before .before .before .before .before .args .store .now) (c .before .before .before .before .before .before .before .before .before .lent .ensures ∙ c .before .before .before .before .before .before .before .before .before .before .before .before .pre .1 .1 .readable .turn .lent)) (w .2) (w .1 .ensures (c .before .before .before .before .before .before .before .before .before .before .before .before .args .levels - 1))) (λ w. evaluates-on (c .before .before .before .before .before .before .before .before .before .before .before .before .args .levels - 1) (c .before .before .before .before .before .before .before .before .before .before .before .before .args .frame .now) (c .before .before .before .before .before .before .before .before .before .before .before .before .args .store .now) (c .before .before .before .before .before .before .before .before .before .before .before .before .args .bytes .now) (c .before .before .before .before .before .before .before .before .before .before .before .before .args .at + 1) (all-lent (c .before .before .before .before .before .before .before .before .before .before .before .before .args .store .now) (c .before .before .before .before .before .before .before .before .before .lent .ensures ∙ c .before .before .before .before .before .before .before .before .before .before .before .before .pre .1 .1 .readable .turn .lent)) (w .2) (w .1 .ensures)) (c .before .before .before .if1 .came)) (λ e. w .0 .taken ((rw (c .before .before .before .before .before .before .byte-size .ensures .0) at (c .before .before .before .before .before .operands-of .ensures)) ∙ e)) (⊎-elim (λ w. evaluates-on (c .before .before .before .before .before .before .before .before .before .before .before .before .args .levels - 1) (c .before .before .before .before .before .before .before .before .before .before .before .before .args .frame .now) (c .before .before .before .before .before .before .before .before .before .before .before .before .args .store .now) (c .before .before .before .before .before .before .before .before .before .before .before .before .args .bytes .now) (c .before .before .before .if1 .one .next) (all-lent (c .before .before .before .before .before .before .before .before .before .before .before .before .args .store .now) (c .before .before .before .before .before .before .before .before .before .lent .ensures ∙ c .before .before .before .before .before .before .before .before .before .before .before .before .pre .1 .1 .readable .turn .lent)) (w .2) (w .1 .ensures (c .before .before .before .before .before .before .before .before .before .before .before .before .args .levels - 1))) (λ w. evaluates-on (c .before .before .before .before .before .before .before .before .before .before .before .before .args .levels - 1) (c .before .before .before .before .before .before .before .before .before .before .before .before .args .frame .now) (c .before .before .before .before .before .before .before .before .before .before .before .before .args .store .now) (c .before .before .before .before .before .before .before .before .before .before .before .before .args .bytes .now) (c .before .before .before .if1 .one .next) (all-lent (c .before .before .before .before .before .before .before .before .before .before .before .before .args .store .now) (c .before .before .before .before .before .before .before .before .before .lent .ensures ∙ c .before .before .before .before .before .before .before .before .before .before .before .before .pre .1 .1 .readable .turn .lent)) (w .2) (w .1 .ensures)) (w .2 .came)) (λ e. w .3 .left ((rw (c .before .before .before .before .before .before .byte-size .ensures .0) at (c .before .before .before .before .before .operands-of .ensures)) ∙ e)) (w .4) (w .5) (c .before .apply .ensures))
+    (λ w. one-gives (c .before .before .before .before .before .before .before .before .before .before .before .before .args .store .now) x (c .before .before .before .before .before .before .before .before .before .before .before .before .pre .1 .1 .operator) (⊎-elim (λ w. evaluates-on (c .before .before .before .before .before .before .before .before .before .before .before .before .args .levels - 1) (c .before .before .before .before .before .before .before .before .before .before .before .before .args .frame .now) (c .before .before .before .before .before .before .before .before .before .before .before .before .args .store .now) (c .before .before .before .before .before .before .before .before .before .before .before .before .args .bytes .now) (c .before .before .before .before .before .before .before .before .before .before .before .before .args .at + 1) (all-lent (c .before .before .before .before .before .before .before .before .before .before .before .before .args .store .now) (c .before .before .before .before .before .before .before .before .before .lent .ensures ∙ c .before .before .before .before .before .before .before .before .before .before .before .before .pre .1 .1 .readable .turn .lent)) (w .2) (w .1 .ensures (c .before .before .before .before .before .before .before .before .before .before .before .before .args .levels - 1))) (λ w. evaluates-on (c .before .before .before .before .before .before .before .before .before .before .before .before .args .levels - 1) (c .before .before .before .before .before .before .before .before .before .before .before .before .args .frame .now) (c .before .before .before .before .before .before .before .before .before .before .before .before .args .store .now) (c .before .before .before .before .before .before .before .before .before .before .before .before .args .bytes .now) (c .before .before .before .before .before .before .before .before .before .before .before .before .args .at + 1) (all-lent (c .before .before .before .before .before .before .before .before .before .before .before .before .args .store .now) (c .before .before .before .before .before .before .before .before .before .lent .ensures ∙ c .before .before .before .before .before .before .before .before .before .before .before .before .pre .1 .1 .readable .turn .lent)) (w .2) (w .1 .ensures)) (c .before .before .before .if1 .came)) (sym (rw (c .before .before .before .before .before .before .byte-size .ensures .0) at (c .before .before .before .before .before .operands-of .ensures)) ∙ w .0 .left) (w .1) (w .2) (c .before .apply .ensures))
     (c .before .before .if2 .came)
 
 pub +eval-spec : {M : Type 1} → statement M
 +eval-spec = close μ-eval λ t. eval-lts.spec (calls t)
     (eval-at t)
     eval.Post
+    (eval-lent-requires t)
+    (λ c. search needs)
+    (λ c. search needs)
+    (eval-part-held-end t)
     (eval-shared-slice-read-op t)
     (λ c κs. search needs)
     (eval-operands-of-requires t)

@@ -109,8 +109,14 @@ scan-operator-refused-requires-4 t c κs = omega (arith, (c .before .before .bef
 scan-operator-returns-4 : (t : ℕ) → scan-operator-lts.Need-returns-4 (calls t) (scan-operator-at t) scan-operator.Post
 scan-operator-returns-4 t c = λ ts x. rw (c .refused4 .ensures) (deep-gives (here _ ts _ _ _ (c .before .before .before .before .before .before .before .before .before .before .pre .1 .1 .0) (c .before .before .before .before .before .before .before .before .before .before .pre .1 .1 .1) ((c .before .before .before .before .before .before .before .before .before .before .pre .1 .0) .wants) (c .before .before .before .before .before .before .before .before .if1 .left) (c .before .before .before .before .before .before .byte-size .ensures .0) (c .before .before .before .before .before .if2 .left) (c .before .before .before .before .results-of .ensures) (c .before .before .before .if3 .left) refl refl) ((c .before .before .before .before .before .before .before .before .before .before .pre .1 .0) .wants) (c .before .before .if4 .taken) (c .before .deep-fault .ensures) x)
 
-scan-operator-sub-left : (t : ℕ) → scan-operator-lts.Need-sub-left (calls t) (scan-operator-at t) scan-operator.Post
-scan-operator-sub-left t c = omega (arith, (c .before .before .before .before .before .before .before .before .pre .1 .1 .1))
+scan-operator-sub-scan-operator : (t : ℕ) → scan-operator-lts.Need-sub-scan-operator (calls t) (scan-operator-at t) scan-operator.Post
+scan-operator-sub-scan-operator t c = omega (arith, (c .before .before .before .before .before .before .before .before .before .before .before .before .before .pre .1 .1 .1))
+
+scan-operator-sub-scan-operator-2 : (t : ℕ) → scan-operator-lts.Need-sub-scan-operator-2 (calls t) (scan-operator-at t) scan-operator.Post
+scan-operator-sub-scan-operator-2 t c = omega (arith, (c .before .before .before .before .before .before .before .before .before .before .before .before .before .before .before .before .before .before .before .pre .1 .1 .1))
+
+scan-operator-sub-scan-operator-3 : (t : ℕ) → scan-operator-lts.Need-sub-scan-operator-3 (calls t) (scan-operator-at t) scan-operator.Post
+scan-operator-sub-scan-operator-3 t c = omega (arith, (c .before .before .before .before .before .before .before .before .before .before .before .before .before .before .before .before .before .before .before .before .before .before .before .before .pre .1 .1 .1))
 
 scan-operator-operands-of-requires : (t : ℕ) → scan-operator-lts.Need-operands-of-requires (calls t) (scan-operator-at t) scan-operator.Post
 scan-operator-operands-of-requires t c κs = ((c .before .before .before .if2 .left), ((c .before .before .before .before .before .before .before .before .pre .1 .0) .tabulated))
@@ -185,22 +191,24 @@ pub +scan-operator-spec : {M : Type 1} → statement M
     (scan-operator-deep-fault-requires t)
     (scan-operator-refused-requires-4 t)
     (scan-operator-returns-4 t)
-    (scan-operator-sub-left t)
     (scan-operator-operands-of-requires t)
     (scan-operator-operand-of-requires t)
     (scan-operator-leaf-stands-requires t)
     (scan-operator-scan-leaf-requires t)
+    (scan-operator-sub-scan-operator t)
     (scan-operator-scan-operator-requires t)
     (scan-operator-refuses-requires t)
     (scan-operator-returns-5 t)
     (scan-operator-rest-type-requires t)
     (scan-operator-leaf-stands-requires-2 t)
     (scan-operator-scan-leaf-requires-2 t)
+    (scan-operator-sub-scan-operator-2 t)
     (scan-operator-scan-operator-requires-2 t)
     (scan-operator-refuses-requires-2 t)
     (scan-operator-returns-6 t)
     (scan-operator-leaf-stands-requires-3 t)
     (scan-operator-scan-leaf-requires-3 t)
+    (scan-operator-sub-scan-operator-3 t)
     (scan-operator-scan-operator-requires-3 t)
     (scan-operator-returns-7 t)
     (scan-operator-returns-8 t)

@@ -4,7 +4,6 @@ use mathlib.Core.Path.{_≡_}
 use mathlib.Core.Logic.{⊎-elim}
 use Prim.Native.Nat.{_*_, _-_, _≤_}
 use native.Mathlib.Omega.{arith}
-use native.Mathlib.Nat.{mod-le}
 use borrow.Author.Needs.{needs}
 use Rattle.basis.proofs.Sums.{sum-on}
 use Rattle.store.proofs.Frames.{newest-due, newest-last, newest-small, none-before, laid-none, lapped-due, lapped-not, laid-more, framed}
@@ -24,14 +23,11 @@ abbrev μ-loop : tie.MeasureT-loop
 loop-holds : tie.Need-loop-holds Inv-loop μ-loop
 loop-holds c = (omega arith, (omega arith, (none-before _, laid-none _ _ _ _ _ (c .pre .shape))))
 
-cast-newest : tie.Need-cast-newest Inv-loop μ-loop
-cast-newest c = let e = ⊎-elim (λ w. newest-due (c .before .before .before .before .before .before .before .before .before .args .look .now) (c .before .before .before .before .before .before .before .before .before .args .known) (c .before .before .before .before .before .before .before .before .before .args .t) (c .before .before .before .before .before .before .before .before .loop .v) (c .before .before .before .before .before .short-wide .ensures .0) (w .0 .taken) (w .1)) (λ w. newest-last (c .before .before .before .before .before .before .before .before .before .args .look .now) (c .before .before .before .before .before .before .before .before .before .args .known) (c .before .before .before .before .before .before .before .before .before .args .t) (c .before .before .before .before .before .before .before .before .loop .v) (c .before .before .before .before .before .short-wide .ensures .0) (w .0 .left) (w .1)) (c .before .if2 .came) in record { fits = omega (arith, e, newest-small (c .before .before .before .before .before .before .before .before .before .args .look .now) (c .before .before .before .before .before .before .before .before .before .args .known) (c .before .before .before .before .before .before .before .before .before .args .t) (c .before .before .before .before .before .before .before .before .loop .v) (c .before .before .before .before .before .short-wide .ensures .0) (c .before .before .before .before .before .before .before .before .before .pre .row) e, c .before .before .before .before .before .before .before .before .before .pre .rows) }
+cast-lap-before : tie.Need-cast-lap-before Inv-loop μ-loop
+cast-lap-before c = let e = ⊎-elim (λ w. newest-due (c .before .before .before .before .before .before .before .before .before .args .look .now) (c .before .before .before .before .before .before .before .before .before .args .known) (c .before .before .before .before .before .before .before .before .before .args .t) (c .before .before .before .before .before .before .before .before .loop .v) (c .before .before .before .before .before .short-wide .ensures .0) (w .0 .taken) (w .1)) (λ w. newest-last (c .before .before .before .before .before .before .before .before .before .args .look .now) (c .before .before .before .before .before .before .before .before .before .args .known) (c .before .before .before .before .before .before .before .before .before .args .t) (c .before .before .before .before .before .before .before .before .loop .v) (c .before .before .before .before .before .short-wide .ensures .0) (w .0 .left) (w .1)) (c .before .if2 .came) in record { fits = omega (arith, e, newest-small (c .before .before .before .before .before .before .before .before .before .args .look .now) (c .before .before .before .before .before .before .before .before .before .args .known) (c .before .before .before .before .before .before .before .before .before .args .t) (c .before .before .before .before .before .before .before .before .loop .v) (c .before .before .before .before .before .short-wide .ensures .0) (c .before .before .before .before .before .before .before .before .before .pre .row) e, c .before .before .before .before .before .before .before .before .before .pre .rows) }
 
-slot-of-requires : tie.Need-slot-of-requires Inv-loop μ-loop
-slot-of-requires c κs = omega (arith, c .before .before .before .short-word .ensures .0, c .before .before .before .before .before .before .before .before .before .pre .some _ (c .before .before .before .before .before .before .before .loop-test .taken))
-
-sub-frame : tie.Need-sub-frame Inv-loop μ-loop
-sub-frame c = omega (arith, c .slot-of .ensures, mod-le (c .before .before .if2 .p) (c .before .before .before .before .short-word .result))
+lap-before-requires : tie.Need-lap-before-requires Inv-loop μ-loop
+lap-before-requires c κs = omega (arith, c .before .before .before .short-word .ensures .0, c .before .before .before .before .before .before .before .before .before .pre .some _ (c .before .before .before .before .before .before .before .loop-test .taken))
 
 add-part : tie.Need-add-part Inv-loop μ-loop
 add-part c = record { fits = omega (arith, c .before .before .before .before .before .before .before .before .loop .inv .1 .0, c .before .before .before .short-word .ensures .1, c .before .before .before .before .before .before .before .loop-test .taken, c .before .before .before .before .before .before .before .before .before .pre .few) }
@@ -57,9 +53,8 @@ lay-spec =
     (λ c κs. search needs)
     (λ c. search needs)
     (λ c. search needs)
-    cast-newest
-    slot-of-requires
-    sub-frame
+    cast-lap-before
+    lap-before-requires
     (λ c. search needs)
     (λ c. search needs)
     (λ c. search needs)
