@@ -53,6 +53,11 @@ op-good div-levels p q m n x y = div-fits binary32 x y
 op-good less-levels p q m n x y = tt
 op-good no-operator p q m n x y = tt
 
+-- what holds of two operators holds of either
+of-two : (P : Op → Type 0) (b : Bool) (o : Op) {o' : Op} → P o → P o' → P (pickOp b o o')
+of-two P true o g h = g
+of-two P false o g h = h
+
 -- the flags that operators give, as the code finds them
 module _ (p q : Bool) (m n : ℕ) (x y : Float) where
   abbrev given : Op → Bool
@@ -64,23 +69,21 @@ module _ (p q : Bool) (m n : ℕ) (x y : Float) where
   record NeverTrue (o : Op) : Type 0 where
     pub is : given o ≡ false
 
-  flag-of : (b : Bool) (o : Op) {o' : Op} → onOp o p q m n x y ≡ Flag (given o) → GivesFlag o' → GivesFlag (pickOp b o o')
-  flag-of true o g h = record { is = g }
-  flag-of false o g h = h
-
-  never-of : (b : Bool) (o : Op) {o' : Op} → given o ≡ false → NeverTrue o' → NeverTrue (pickOp b o o')
-  never-of true o g h = record { is = g }
-  never-of false o g h = h
-
   module _ (k : ℕ) where
     -- all but the six kinds of words and levels give a flag
     pub gives-flag : (k ≡ 0x24 → ⊥) → (k ≡ 0x25 → ⊥) → (k ≡ 0x2b → ⊥) → (k ≡ 0x2c → ⊥) → (k ≡ 0x2d → ⊥) → (k ≡ 0x2e → ⊥) → onOp (opOf k) p q m n x y ≡ Flag (given (opOf k))
     unfolding opOf
     gives-flag a b c d e f =
         let all =
-        flag-of (eqb k 0x20) not-flag refl (flag-of (eqb k 0x21) and-flags refl (flag-of (eqb k 0x22) or-flags refl (flag-of (eqb k 0x26) ahead-words refl
-        (flag-of (eqb k 0x27) less-words refl (flag-of (eqb k 0x28) equal-words refl (flag-of (eqb k 0x29) equal-flags refl (flag-of (eqb k 0x2a) equal-levels refl
-        (flag-of (eqb k 0x2f) less-levels refl (record { is = refl })))))))))
+        of-two GivesFlag (eqb k 0x20) not-flag (record { is = refl })
+        (of-two GivesFlag (eqb k 0x21) and-flags (record { is = refl })
+        (of-two GivesFlag (eqb k 0x22) or-flags (record { is = refl })
+        (of-two GivesFlag (eqb k 0x26) ahead-words (record { is = refl })
+        (of-two GivesFlag (eqb k 0x27) less-words (record { is = refl })
+        (of-two GivesFlag (eqb k 0x28) equal-words (record { is = refl })
+        (of-two GivesFlag (eqb k 0x29) equal-flags (record { is = refl })
+        (of-two GivesFlag (eqb k 0x2a) equal-levels (record { is = refl })
+        (of-two GivesFlag (eqb k 0x2f) less-levels (record { is = refl }) (record { is = refl })))))))))
         in rw (ne-eqb _ _ a, ne-eqb _ _ b, ne-eqb _ _ c, ne-eqb _ _ d, ne-eqb _ _ e, ne-eqb _ _ f) (all .is)
 
     -- the operators behind the eight that are tried first
@@ -90,8 +93,12 @@ module _ (p q : Bool) (m n : ℕ) (x y : Float) where
     last-of true e = let i : k ≡ 0x2f = eqb-true _ _ e in rw i refl
     last-of false e =
         let all =
-        never-of (eqb k 0x24) add-words refl (never-of (eqb k 0x25) sub-words refl (never-of (eqb k 0x2b) add-levels refl (never-of (eqb k 0x2c) sub-levels refl
-        (never-of (eqb k 0x2d) mul-levels refl (never-of (eqb k 0x2e) div-levels refl (record { is = refl }))))))
+        of-two NeverTrue (eqb k 0x24) add-words (record { is = refl })
+        (of-two NeverTrue (eqb k 0x25) sub-words (record { is = refl })
+        (of-two NeverTrue (eqb k 0x2b) add-levels (record { is = refl })
+        (of-two NeverTrue (eqb k 0x2c) sub-levels (record { is = refl })
+        (of-two NeverTrue (eqb k 0x2d) mul-levels (record { is = refl })
+        (of-two NeverTrue (eqb k 0x2e) div-levels (record { is = refl }) (record { is = refl }))))))
         in sym (all .is)
 
     -- of a kind that is none of those eight, the flag is that of `less` of levels, or false
