@@ -12,7 +12,7 @@
 use core::mem::{align_of, size_of};
 
 /// The version that the header has: major, minor, patch.
-pub const VERSION: [u32; 3] = [1, 0, 2];
+pub const VERSION: [u32; 3] = [1, 1, 0];
 
 /// "table 1 to 4,096 bytes"
 pub const TABLE_MOST: usize = 4096;

@@ -40,8 +40,8 @@ extern "C" {
 // the patch where every caller can stay as it is, the minor where something is new beside what was,
 // the major where a caller has to change or to be compiled anew.
 #define GLASSPUDDLE_VERSION_MAJOR 1
-#define GLASSPUDDLE_VERSION_MINOR 0
-#define GLASSPUDDLE_VERSION_PATCH 2
+#define GLASSPUDDLE_VERSION_MINOR 1
+#define GLASSPUDDLE_VERSION_PATCH 0
 #define GLASSPUDDLE_VERSION                                                                        \
     (GLASSPUDDLE_VERSION_MAJOR * 10000 + GLASSPUDDLE_VERSION_MINOR * 100 +                         \
      GLASSPUDDLE_VERSION_PATCH)
@@ -124,7 +124,9 @@ enum glasspuddle_number {
 };
 
 // The record of a run: "each stream's look-ahead and kept number (0 past S), the rows taken, the
-// phase (reading, draining, over) and closing turns done". A padding byte follows; it says nothing.
+// phase (reading, draining, over) and closing turns done". A byte of padding follows; it says
+// nothing, and no call writes it, opening included. So a record that was cleared once (static, or
+// memset) and copied by memcpy can be compared with memcmp; else compare the fields.
 typedef struct glasspuddle_record {
     uint16_t look[GLASSPUDDLE_STREAMS_MOST];
     uint16_t kept[GLASSPUDDLE_STREAMS_MOST];

@@ -32,14 +32,21 @@ layout_by() {
     fi
 }
 
-# Both docks and the program on one input: the same lines, and an act for each trigger.
+# Both docks and the program on one input: the same lines, an act for each trigger, and status 0 if
+# the run ended, 2 if there was none.
 same() {
     "$program" < "$out/input" > "$out/owed"
     sed -n 's/^t \(.*\) \(.*\)$/dock: trigger \1 at position \2/p' "$out/owed" > "$out/acts"
+    case $(tail -n 1 "$out/owed") in
+    "end "*) wanted=0 ;;
+    *) wanted=2 ;;
+    esac
     for dock in dock_c dock_rust; do
-        "$out/$dock" < "$out/input" > "$out/given" 2> "$out/acted" || fail "$dock ends badly: $1"
+        status=0
+        "$out/$dock" < "$out/input" > "$out/given" 2> "$out/acted" || status=$?
         cmp "$out/owed" "$out/given" || fail "$dock gives other lines: $1"
         cmp "$out/acts" "$out/acted" || fail "$dock acts otherwise: $1"
+        [ "$status" -eq "$wanted" ] || fail "$dock ends with $status, not $wanted: $1"
     done
     cases=$((cases + 1))
 }
@@ -93,6 +100,15 @@ cmp tests/sessions.expected "$out/given" || fail "an entry gives not what tests/
 echo "sessions: the entries give what tests/sessions.py reads out of document 01"
 compile_c stack tests/stack.c
 "$out/stack" < crates/test_tables/stdin
+
+# The program in docs/INTEGRATORS.md, in the block of C, and the lines that it prints, in the next one.
+page=docs/INTEGRATORS.md
+awk '/^```c$/ { inside = 1; next } inside && /^```$/ { exit } inside' "$page" > "$out/one_row.c"
+awk '/^```c$/ { seen = 1 } seen && /^```$/ { fences++; next } fences == 2' "$page" > "$out/owed"
+compile_c one_row "$out/one_row.c"
+"$out/one_row" > "$out/given"
+cmp "$out/owed" "$out/given" || fail "the program in $page prints other lines than the page has"
+echo "one_row: the program in $page prints what the page has"
 
 compile_c dock_c examples/dock.c
 rustc -O --edition 2021 --crate-type rlib --crate-name glasspuddle \

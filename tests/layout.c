@@ -40,8 +40,9 @@ AT(glasspuddle_checked, room, 152, 8);
 AT(glasspuddle_checked, closing, 160, 2);
 static_assert(sizeof(glasspuddle_checked) == 168, "the size of what is announced");
 
-// The record's bytes up to its padding.
+// The record's bytes up to its padding, and what that byte is put to before each call.
 #define RECORD_BYTES 135
+#define PADDING 0xAA
 
 // More words and bytes than table A asks for, to see that the rest stays.
 #define WORDS 6
@@ -80,20 +81,40 @@ static bool holds(uint32_t rows, uint16_t done, uint8_t phase) {
            record.done == done && record.phase == phase;
 }
 
+// Every call goes between these two: none writes the padding, whatever it answers.
+static void put_padding(void) {
+    ((uint8_t *)&record)[RECORD_BYTES] = PADDING;
+}
+
+static glasspuddle_told with_padding(glasspuddle_told told) {
+    expect(((const uint8_t *)&record)[RECORD_BYTES] == PADDING, "a call leaves the padding");
+    return told;
+}
+
+static glasspuddle_told open_with(size_t words) {
+    put_padding();
+    return with_padding(glasspuddle_open(&record, table_a, sizeof table_a, store, words));
+}
+
 static glasspuddle_told open_a(void) {
-    return glasspuddle_open(&record, table_a, sizeof table_a, store, WORDS);
+    return open_with(WORDS);
 }
 
 static glasspuddle_told row_a(uint32_t word) {
-    return glasspuddle_row(&record, table_a, sizeof table_a, store, WORDS, &word, 1, out, BYTES);
+    put_padding();
+    return with_padding(
+        glasspuddle_row(&record, table_a, sizeof table_a, store, WORDS, &word, 1, out, BYTES));
 }
 
 static glasspuddle_told close_a(void) {
-    return glasspuddle_close(&record, table_a, sizeof table_a);
+    put_padding();
+    return with_padding(glasspuddle_close(&record, table_a, sizeof table_a));
 }
 
 static glasspuddle_told drain_a(void) {
-    return glasspuddle_drain(&record, table_a, sizeof table_a, store, WORDS, out, BYTES);
+    put_padding();
+    return with_padding(
+        glasspuddle_drain(&record, table_a, sizeof table_a, store, WORDS, out, BYTES));
 }
 
 static void check_announces(void) {
@@ -189,8 +210,7 @@ static void any_record_is_handed_back(void) {
         record.phase = (uint8_t)phase;
         each_call_refuses(10, 10, 10, "a record of other numbers is refused with 10");
     }
-    expect(tells(glasspuddle_open(&record, table_a, sizeof table_a, store, 3), 11, 0, 0),
-           "a store of 3 words is refused with 11");
+    expect(tells(open_with(3), 11, 0, 0), "a store of 3 words is refused with 11");
     const uint8_t zeros[RECORD_BYTES] = {0};
     expect(memcmp(&record, zeros, RECORD_BYTES) == 0, "a refused opening gives an all-zero record");
 }

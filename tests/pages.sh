@@ -1,6 +1,8 @@
 #!/bin/sh
 # What the pages cite is there. From the repository's root: sh tests/pages.sh
 # - Sizes and counts are those of the sources (tools/sizes, tools/counts); docs/crates.svg has the crates of crates.txt (tools/floors).
+# - README.md prints the lines that its two examples give: the first plain block is those of table_a.expected, the second what a dock
+#   says about the triggers of two_ears.expected.
 # - Each link leads to a file, and to a heading of it where it names one.
 # - Each path between backquotes exists: as it stands, under crates/, beside the page or the path before it, or as the must-fail edit
 #   crate/name. A file's bare name may be that of any file outside crates/.
@@ -20,6 +22,17 @@ if ! diff "$out/pages.crates" "$out/pages.drawn"; then
     echo "pages: docs/crates.svg has other crates (<: crates.txt, >: picture); tools/floors draws it"
     failed=1
 fi
+
+rm -f "$out"/readme.*
+awk -v out="$out/readme." '/^```/ { inside = !inside; plain = inside && /^```$/; n += plain; next } plain { print > (out n) }' README.md
+cp examples/table_a.expected "$out/readme.owed.1"
+sed -n 's/^t \(.*\) \(.*\)$/dock: trigger \1 at position \2/p' examples/two_ears.expected > "$out/readme.owed.2"
+for block in 1 2; do
+    if ! diff "$out/readme.$block" "$out/readme.owed.$block"; then
+        echo "pages: plain block $block of README.md is not what the example gives (<: page, >: example)"
+        failed=1
+    fi
+done
 
 # Every file and folder, and every name with the file that defines it.
 find . \( -path ./target -o -path ./.git \) -prune -o -print | sed 's|^\./||' > "$out/pages.files"

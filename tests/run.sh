@@ -14,6 +14,8 @@ target/tests/calls > target/tests/calls.out || { cat target/tests/calls.out; exi
 cat target/tests/calls.out
 target/tests/compare "$program"
 sh tests/dock.sh "$program"
+# The reference leaves a failed read or write to Rust's library.
+[ "$program" = target/tests/reference ] || sh tests/ends.sh "$program"
 sh tests/numbers.sh
 # Last, since the pages also say how many calls were made.
 sh tests/pages.sh

@@ -17,7 +17,8 @@ use Rattle.node.proofs.Tabulated.{same-at}
 use Rattle.expression.specs.Syntax.{Expr}
 use Rattle.expression.specs.Grammar.{good, parse}
 use Rattle.expression.specs.References.{references, Refers, noted, Extremes}
-use Rattle.expression.specs.Seen.{seenRise, seenFall, Seen, Unnoted, Sees}
+use Rattle.expression.specs.Seen.{seenRise, seenFall, Seen, Unnoted, fresh}
+use Rattle.expression.proofs.Seeing.{fresh-seen}
 use Rattle.expression.specs.Scanning.{CanScan, Scanning}
 use Rattle.expression.proofs.Extremes.{extremes}
 use Rattle.expression.proofs.Sound.{good-right}
@@ -45,8 +46,8 @@ module _ {s : List ℕ} {t : Table} {types starts : List ℕ} {held : ℕ} (a : 
   types-taken = rw (a .streams-are, a .types-are) (padded-take (t .types))
 
   -- rows that are filled with the table's types
-  pub all-seen : {seen : List (List ℕ)} → Sees (take held types) seen → Seen (take held types) seen × Unnoted seen
-  all-seen f = f (λ v _. rw types-taken (omega (arith, fine .type-is v)))
+  pub all-seen : {seen : List (List ℕ)} → seen ≡ fresh (take held types) → Seen (take held types) seen × Unnoted seen
+  all-seen e = fresh-seen types held (omega (arith, a .streams-are, fine .few)) e (λ v _. rw types-taken (omega (arith, fine .type-is v)))
 
   -- before the first equation
   pub weights-none : WeighsTo t (t .inputs) (replicate mostPairs 0) (replicate mostPairs 0)

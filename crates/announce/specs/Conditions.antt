@@ -2,7 +2,6 @@
 -- Assumes nothing.
 use Prim.Native.Nat.{ℕ, _≤_, _<_}
 use mathlib.Core.Path.{_≡_}
-use mathlib.Core.Logic.{_⊎_}
 use mathlib.Core.List.{List}
 use lib.ListN.{length, getD}
 use Rattle.limits.specs.Limits.{mostStreams, mostWords}
@@ -10,7 +9,8 @@ use Rattle.limits.specs.Refusals.{accepted, wrongLoop, overWords}
 use Rattle.basis.specs.Sums.{total, most}
 use Rattle.records.specs.Kinds.{roomOf}
 use Rattle.basis.specs.Edges.{among}
-use Rattle.table.specs.Table.{Table, decoded, refused, decode, streams, edges}
+use Rattle.table.specs.Table.{Table, refused, decode, streams, edges}
+use Rattle.table.specs.Generation.{Generated}
 use Rattle.walks.specs.Walks.{Edges, LoopsBelow, LookAhead, Kept, PlaceOfLoop}
 use Rattle.announce.specs.declared.Checked.{Checked}
 
@@ -31,10 +31,11 @@ pub record Numbers (t : Table) (look kept : ℕ → ℕ) (words room closing : �
   -- "Closing turns: the largest look-ahead."
   pub closing-turns : closing ≡ most look (streams t)
 
--- A table is accepted: the grammar reads it, "every loop's total below 0", "store at most 4,096 words".
+-- A table is accepted: it keeps to the rules of "The table" and "Numbers", and its bytes are s; "every loop's total below 0"; "store at
+-- most 4,096 words".
 pub record Accepted (s : List ℕ) : Type 0 where
   pub table : Table
-  pub grammar : decode s ≡ decoded table
+  pub grammar : Generated s table
   pub loops : LoopsBelow (edgesOf table)
   pub look : ℕ → ℕ
   pub kept : ℕ → ℕ
@@ -44,24 +45,22 @@ pub record Accepted (s : List ℕ) : Type 0 where
 
 -- Why a table is refused, by number and place.
 pub data Refusal (s : List ℕ) : ℕ → ℕ → Type 0 where
-  -- the grammar's first fault
+  -- the first fault of the scan
   by-grammar : {n p : ℕ} → decode s ≡ refused n p → Refusal s n p
   -- "a loop totals 0 or more", at the "lowest stream with a walk of 1 to S edges back to itself totalling 0 or more"
-  by-loop : {t : Table} {p : ℕ} → decode s ≡ decoded t → PlaceOfLoop (edgesOf t) (streams t) p → Refusal s wrongLoop p
+  by-loop : {t : Table} {p : ℕ} → Generated s t → PlaceOfLoop (edgesOf t) (streams t) p → Refusal s wrongLoop p
   -- "store words over 4,096"
-  by-store : {t : Table} (look kept : ℕ → ℕ) (words room closing : ℕ) → decode s ≡ decoded t → LoopsBelow (edgesOf t) → Numbers t look kept words room closing → mostWords < words → Refusal s overWords 0
+  by-store : {t : Table} (look kept : ℕ → ℕ) (words room closing : ℕ) → Generated s t → LoopsBelow (edgesOf t) → Numbers t look kept words room closing → mostWords < words → Refusal s overWords 0
 
--- an accepted answer: number 0, place 0, the announced numbers, 0 past S
-pub record Announces (s : List ℕ) (r : Checked) : Type 0 where
-  pub table : Table
-  pub grammar : decode s ≡ decoded table
-  pub loops : LoopsBelow (edgesOf table)
-  pub numbers : Numbers table (λ v. getD (r .look) v 0) (λ v. getD (r .kept) v 0) (r .words) (r .room) (r .closing)
+-- an accepting answer of the table t: number 0, place 0, the announced numbers, 0 past S
+pub record Announces (t : Table) (r : Checked) : Type 0 where
+  pub loops : LoopsBelow (edgesOf t)
+  pub numbers : Numbers t (λ v. getD (r .look) v 0) (λ v. getD (r .kept) v 0) (r .words) (r .room) (r .closing)
   pub store : r .words ≤ mostWords
   pub number-is : r .number ≡ accepted
   pub place-is : r .place ≡ 0
   pub sizes : (length (r .look) ≡ mostStreams) × (length (r .kept) ≡ mostStreams)
-  pub past : (v : ℕ) → streams table ≤ v → (getD (r .look) v 0 ≡ 0) × (getD (r .kept) v 0 ≡ 0)
+  pub past : (v : ℕ) → streams t ≤ v → (getD (r .look) v 0 ≡ 0) × (getD (r .kept) v 0 ≡ 0)
 
 -- a refusing answer: a number other than 0 with its place, and zeros
 pub record Refuses (s : List ℕ) (r : Checked) : Type 0 where
@@ -72,5 +71,6 @@ pub record Refuses (s : List ℕ) (r : Checked) : Type 0 where
   pub nothing : (r .words ≡ 0) × ((r .room ≡ 0) × (r .closing ≡ 0))
 
 -- what document 01 allows the check to answer
-abbrev pub Answers : List ℕ → Checked → Type 0
-Answers s r = Announces s r ⊎ Refuses s r
+pub data Answers (s : List ℕ) (r : Checked) : Type 0 where
+  accepts : (t : Table) → Generated s t → Announces t r → Answers s r
+  refuses : Refuses s r → Answers s r

@@ -8,6 +8,7 @@ ghost use Rattle.basis.specs.Rows.{column};
 ghost use Rattle.expression.specs.Seen.{seenEntries};
 ghost use Rattle.square.specs.Square.{cell, riseBest};
 ghost use Rattle.announce.specs.Announced.{announced, refusal};
+ghost use Rattle.announce.specs.Conditions.{Answers};
 ghost use Rattle.announce.specs.Rows.{RowPut, Weighs, Scanned, Fitting, numbersOf};
 use expression::SEEN_ENTRIES;
 use limits::PAIRS_MOST;
@@ -163,9 +164,9 @@ fn weigh_scan(table: &[u8], scan: Scan) -> Checked
 }
 
 // The check of a table: number and place, and, where it is accepted, look-ahead and kept number of each stream, store words, room and
-// closing turns.
+// closing turns. It is what document 01 allows it to answer.
 pub fn check(table: &[u8]) -> Checked
-    ensures { λ r. ⌜ r ≡ announced (now (table .entry)) ⌝ }
+    ensures { λ r. ⌜ (r ≡ announced (now (table .entry))) × Answers (now (table .entry)) r ⌝ }
 {
     let scan = table::scan_table(table);
     let outcome = scan.outcome;

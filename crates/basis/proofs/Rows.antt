@@ -1,4 +1,4 @@
--- Rows of numbers: a column's entries, and what writing one entry does to a column.
+-- Rows of numbers: a column's entries, what writing one entry does to a column, and that entries determine rows.
 -- Assumes nothing.
 use Prim.Native.Nat.{ℕ, zero, suc, _<_}
 use mathlib.Core.Path.{_≡_, refl, ap, sym, _∙_}
@@ -6,7 +6,7 @@ use mathlib.Core.List.{List, [], _∷_}
 use native.Mathlib.Omega.{arith}
 use native.Mathlib.Decide.{ℕ-discrete}
 use lib.ListN.{length, getD, set, length-set}
-use lib.Seq.{getD-set-same, getD-set-other}
+use lib.Seq.{getD-set-same, getD-set-other, ext-getD}
 use Rattle.basis.specs.Rows.{entry, column, put, Shaped}
 
 pub column-at : (i : ℕ) (rows : List (List ℕ)) (v : ℕ) → getD (column i rows) v 0 ≡ entry rows v i
@@ -14,6 +14,10 @@ unfolding column
 column-at i [] v = refl
 column-at i (r ∷ rows) zero = refl
 column-at i (r ∷ rows) (suc v) = column-at i rows v
+
+-- columns that are the same have the same entries
+pub column-same : (i v : ℕ) (a b : List (List ℕ)) → column i a ≡ column i b → entry a v i ≡ entry b v i
+column-same i v a b e = sym (column-at i a v) ∙ ap (λ (l : List ℕ). getD l v 0) e ∙ column-at i b v
 
 pub column-long : (i : ℕ) (rows : List (List ℕ)) → length (column i rows) ≡ length rows
 unfolding column
@@ -52,7 +56,7 @@ module _ (rows : List (List ℕ)) (v i x : ℕ) where
   entry-row u j h = ap (λ (r : List ℕ). getD r j 0) (getD-set-other rows v u (set (getD rows v []) i x) [] h)
 
   pub entry-other : (j : ℕ) → (j ≡ i → ⊥) → entry (put rows v i x) v j ≡ entry rows v j
-  entry-other j h = sym (column-at j (put rows v i x) v) ∙ ap (λ (l : List ℕ). getD l v 0) (column-left j h) ∙ column-at j rows v
+  entry-other j h = column-same j v (put rows v i x) rows (column-left j h)
 
 -- writing an entry keeps the shape
 pub shaped-put : {n m : ℕ} {rows : List (List ℕ)} (v i x : ℕ) → Shaped n m rows → Shaped n m (put rows v i x)
@@ -67,3 +71,10 @@ shaped-put {n} {m} {rows} v i x s = record {
         let e : length (getD rows v []) ≡ m = s .wide v (omega (arith, l, p)) in
         rw p (ap length (getD-set-same rows v (set (getD rows v []) i x) [] h) ∙ length-set (getD rows v []) i x ∙ e)
     go u l (no p) = ap length (getD-set-other rows v u (set (getD rows v []) i x) [] p) ∙ s .wide u l
+
+-- rows of the same shape with the same entries are the same
+pub rows-once : {n m : ℕ} {a b : List (List ℕ)} → Shaped n m a → Shaped n m b → ((v i : ℕ) → v < n → i < m → entry a v i ≡ entry b v i) → a ≡ b
+rows-once {n} {m} {a} {b} s t e = ext-getD [] a b (s .long ∙ sym (t .long)) (λ v l. row v (omega (arith, s .long, l)))
+  where
+    row : (v : ℕ) → v < n → getD a v [] ≡ getD b v []
+    row v l = ext-getD 0 (getD a v []) (getD b v []) (s .wide v l ∙ sym (t .wide v l)) (λ i k. e v i l (omega (arith, s .wide v l, k)))

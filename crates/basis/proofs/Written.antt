@@ -38,3 +38,7 @@ pub after-is : {a b s : List ℕ} {p q : ℕ} → Wrote a p s b q → b ≡ take
 after-is {a} {b} {s} {p} {q} w =
     sym (take-append-drop q b) ∙ ap (λ (l : List ℕ). l ++ drop q b) (w .front) ∙ append-assoc (take p a) s (drop q b)
     ∙ ap (λ (l : List ℕ). take p a ++ (s ++ l)) (w .rest ∙ ap (λ (k : ℕ). drop k a) (w .ends))
+
+-- so what is written is determined: the slice and the end
+pub wrote-once : {a b c s : List ℕ} {p q r : ℕ} → Wrote a p s b q → Wrote a p s c r → (b ≡ c) × (q ≡ r)
+wrote-once u v = (after-is u ∙ sym (after-is v), u .ends ∙ sym (v .ends))

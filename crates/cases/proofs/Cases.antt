@@ -2,7 +2,7 @@
 -- Assumes nothing.
 use Prim.Native.Nat.{ℕ}
 use native.Mathlib.Omega.{arith}
-use mathlib.Core.Path.{_≡_, refl, sym, _∙_, subst}
+use mathlib.Core.Path.{_≡_, refl, subst}
 use mathlib.Core.List.{List, [], _∷_, map}
 use lib.ListN.{drop}
 use lib.Ieee as Ieee
@@ -16,13 +16,14 @@ use Rattle.wire.specs.Bytes.{wordAt}
 use Rattle.expression.specs.Grammar.{operands, step, parse}
 use Rattle.expression.specs.References.{nodeReferences, references}
 use Rattle.table.specs.Records.{recordFault, typeRule, roleRule, headFault, inputFault, outputFault, equationFault, sideOf, streamFault, roleAt, declared, heads}
-use Rattle.table.specs.Table.{Table, decoded, equationAt, equationsAt, tableOf, decode, edgesFrom, edges}
+use Rattle.table.specs.Table.{Table, equationAt, equationsAt, tableOf, decode, edgesFrom, edges}
 use Rattle.table.specs.TableA.{tableA, treeA}
 use Rattle.walks.specs.Longest.{only, squareOf, through, allBelow, loopsBelow, lookTo, lookOf, supTo, back, shortLoop, lowest, placeOf, slackOf, keptOf}
 use Rattle.basis.specs.Firsts.{firsts}
 use Rattle.announce.specs.Announced.{lookAhead, keptValues, storeWords, roomBytes, closingTurns, weighTable, announced}
-use Rattle.table.proofs.Decoding.{same-table}
-use Rattle.table.proofs.TableA.{table-a-decodes}
+use Rattle.table.specs.Generation.{Generated}
+use Rattle.table.proofs.Generation.{one-table}
+use Rattle.table.proofs.TableA.{table-a-generated}
 use Rattle.lola.specs.Models.{value, refer}
 use Rattle.run.specs.Run.{gather, owed}
 use Rattle.prepare.specs.PlanFor.{planFor}
@@ -32,17 +33,14 @@ use Rattle.meaning.specs.Tables.{TableModel}
 use Rattle.cases.specs.Cases.{wordsFrom, AllHold, rowsP2, rowP4, cases}
 
 -- table A's model, for a list of rows: streams 1 and 2 read stream 0 only, and that is given
-module _ (rows : List (List ℕ)) (t : Table) (e : decode tableA ≡ decoded t) (σ : ℕ → ℕ → Value) (m : TableModel t rows σ) where
-  same : t ≡ treeA
-  same = same-table (sym e ∙ table-a-decodes)
-
+module _ (rows : List (List ℕ)) (t : Table) (g : Generated tableA t) (σ : ℕ → ℕ → Value) (m : TableModel t rows σ) where
   pub model-A : TableModel treeA rows σ
-  model-A = subst (λ (u : Table). TableModel u rows σ) same m
+  model-A = subst (λ (u : Table). TableModel u rows σ) (one-table g table-a-generated) m
 
--- what holds of every model of table A holds of every model of what its bytes decode to
+-- what holds of every model of table A holds of every model of the table whose bytes they are
 of-table-A : (rows : List (List ℕ)) (P : (ℕ → ℕ → Value) → Type 0) → ((σ : ℕ → ℕ → Value) → TableModel treeA rows σ → P σ)
-    → (t : Table) → decode tableA ≡ decoded t → (σ : ℕ → ℕ → Value) → TableModel t rows σ → P σ
-of-table-A rows P h t e σ m = h σ (model-A rows t e σ m)
+    → (t : Table) → Generated tableA t → (σ : ℕ → ℕ → Value) → TableModel t rows σ → P σ
+of-table-A rows P h t g σ m = h σ (model-A rows t g σ m)
 
 -- P2 and P3
 module _ (σ : ℕ → ℕ → Value) (m : TableModel treeA rowsP2 σ) where

@@ -1,7 +1,7 @@
 -- Laws of what is forgotten: one stream after the other, and at the end nothing is noted.
 -- Assumes nothing.
 use mathlib.Core.Path.{_≡_, refl, sym, ap, _∙_}
-use mathlib.Core.Logic.{_⊎_, inl, inr}
+use mathlib.Core.Logic.{_⊎_, inl, inr, ⊎-elim}
 use mathlib.Core.List.{List, []}
 use Prim.Native.Nat.{ℕ, _+_, _≤_, _<_}
 use native.Mathlib.Omega.{arith}
@@ -32,7 +32,7 @@ wiped-some v seen e n = rw (ne-eqb (rises seen v) 0 (λ z. n (e ∙ z))) refl
 -- v alone is forgotten
 record Cleared (v : ℕ) (seen seen′ : List (List ℕ)) : Type 0 where
   shape : Shaped mostStreams seenEntries seen′
-  types : (u : ℕ) → entry seen′ u seenType ≡ entry seen u seenType
+  entries : (u i : ℕ) → (i ≡ seenRise → ⊥) → (i ≡ seenFall → ⊥) → entry seen′ u i ≡ entry seen u i
   no-rise : rises seen′ v ≡ 0
   no-fall : (rises seen v ≡ 0 → falls seen v ≡ 0) → falls seen′ v ≡ 0
   others : (u : ℕ) → (u ≡ v → ⊥) → getD seen′ u [] ≡ getD seen u []
@@ -45,16 +45,16 @@ module _ (v : ℕ) (seen : List (List ℕ)) (h : v < mostStreams) (s : Shaped mo
   unfolding one
   one-shape = shaped-put v seenRise 0 s
 
-  put-types : (u : ℕ) → Dec (u ≡ v) → entry (put one v seenFall 0) u seenType ≡ entry seen u seenType
+  put-entries : (u i : ℕ) → (i ≡ seenRise → ⊥) → (i ≡ seenFall → ⊥) → Dec (u ≡ v) → entry (put one v seenFall 0) u i ≡ entry seen u i
   unfolding one
-  put-types u (yes p) = rw p (entry-other (put seen v seenRise 0) v seenFall 0 seenType (λ e. omega arith) ∙ entry-other seen v seenRise 0 seenType (λ e. omega arith))
-  put-types u (no p) = entry-row (put seen v seenRise 0) v seenFall 0 u seenType p ∙ entry-row seen v seenRise 0 u seenType p
+  put-entries u i a b (yes p) = rw p (entry-other (put seen v seenRise 0) v seenFall 0 i b ∙ entry-other seen v seenRise 0 i a)
+  put-entries u i a b (no p) = entry-row (put seen v seenRise 0) v seenFall 0 u i p ∙ entry-row seen v seenRise 0 u i p
 
   put-cleared : Cleared v seen (put (put seen v seenRise 0) v seenFall 0)
   unfolding one
   put-cleared = record {
     shape = shaped-put v seenFall 0 one-shape;
-    types = λ u. put-types u (ℕ-discrete u v);
+    entries = λ u i a b. put-entries u i a b (ℕ-discrete u v);
     no-rise = entry-other (put seen v seenRise 0) v seenFall 0 seenRise (λ e. omega arith) ∙ entry-put seen v seenRise 0 (omega (arith, s .long)) (omega (arith, s .wide v h));
     no-fall = λ g. entry-put (put seen v seenRise 0) v seenFall 0 (omega (arith, one-shape .long)) (omega (arith, one-shape .wide v h));
     others = λ u n. getD-set-other (put seen v seenRise 0) v u _ [] n ∙ getD-set-other seen v u _ [] n;
@@ -64,14 +64,14 @@ module _ (v : ℕ) (seen : List (List ℕ)) (h : v < mostStreams) (s : Shaped mo
   wiped-cleared = go (ℕ-discrete (rises seen v) 0)
     where
       go : Dec (rises seen v ≡ 0) → Cleared v seen (wiped v seen)
-      go (yes z) = rw (← wiped-none v seen refl z) (record { shape = s; types = λ u. refl; no-rise = z; no-fall = λ g. g z; others = λ u n. refl })
+      go (yes z) = rw (← wiped-none v seen refl z) (record { shape = s; entries = λ u i a b. refl; no-rise = z; no-fall = λ g. g z; others = λ u n. refl })
       go (no n) = rw (← wiped-some v seen refl n) put-cleared
 
 -- before the first stream
 pub forgotten-start : {seen : List (List ℕ)} → Shaped mostStreams seenEntries seen → Forgotten 0 seen seen
 forgotten-start s = record {
   shape = s;
-  types = λ v. refl;
+  others = λ v i a b. refl;
   no-rise = λ v l. absurd (not-suc-le-zero l);
   no-fall = λ v l. absurd (not-suc-le-zero l);
   past = λ v l. refl;
@@ -89,7 +89,7 @@ module _ {v : ℕ} {seen seen′ : List (List ℕ)} (f : Forgotten v seen seen�
   pub forgotten-on : v < mostStreams → Forgotten (v + 1) seen (wiped v seen′)
   forgotten-on h = record {
     shape = c .shape;
-    types = λ u. c .types u ∙ f .types u;
+    others = λ u i a b. c .entries u i a b ∙ f .others u i a b;
     no-rise = λ u l. rise u (lt-or-eq (omega arith));
     no-fall = λ u l. fall u (lt-or-eq (omega arith));
     past = λ u l. c .others u (λ e. omega arith) ∙ f .past u (omega arith);
@@ -124,6 +124,10 @@ none-past {rs} {y} {s} {v} {rise} {fall} r l x = (risen (lt-or-ge 0 rise), falle
     fallen (inl h) = let q = x .smallest h in absurd (omega (arith, r y v (q .0) (q .1) .below))
     fallen (inr h) = omega arith
 
+-- where no largest weight is noted, no smallest one is
+pub fall-with-rise : {rs : List Edge} {y v rise fall : ℕ} → Extremes rs y v rise fall → rise ≡ 0 → fall ≡ 0
+fall-with-rise {fall = fall} x e = ⊎-elim (λ p. absurd (omega (arith, x .together .1 p))) (λ p. omega arith) (lt-or-ge 0 fall)
+
 module _ {s : ℕ} {seen seen′ : List (List ℕ)} (f : Forgotten s seen seen′) where
   -- nothing is noted any more
   pub forgotten-unnoted : {rs : List Edge} {y : ℕ} → Row rs y (rises seen) (falls seen) s →
@@ -131,11 +135,7 @@ module _ {s : ℕ} {seen seen′ : List (List ℕ)} (f : Forgotten s seen seen�
   forgotten-unnoted {rs} {y} x z v h = go (lt-or-ge v s)
     where
       go : (v < s) ⊎ (s ≤ v) → (rises seen′ v ≡ 0) × (falls seen′ v ≡ 0)
-      go (inl l) = (f .no-rise v l, f .no-fall v l (λ e. together e (lt-or-ge 0 (falls seen v))))
-        where
-          together : rises seen v ≡ 0 → (0 < falls seen v) ⊎ (falls seen v ≤ 0) → falls seen v ≡ 0
-          together e (inl p) = absurd (omega (arith, x .extremes v l .together .1 p))
-          together e (inr p) = omega arith
+      go (inl l) = (f .no-rise v l, f .no-fall v l (fall-with-rise (x .extremes v l)))
       go (inr l) = rw (f .past v l) (z v l h)
 
   -- the streams are the same
@@ -144,6 +144,9 @@ module _ {s : ℕ} {seen seen′ : List (List ℕ)} (f : Forgotten s seen seen�
     shape = f .shape;
     few = x .few;
     typed = x .typed;
-    types = λ v l. f .types v ∙ x .types v l;
-    past = λ v l h. f .types v ∙ x .past v l h;
+    types = λ v l. type v ∙ x .types v l;
+    past = λ v l h. type v ∙ x .past v l h;
   }
+    where
+      type : (v : ℕ) → entry seen′ v seenType ≡ entry seen v seenType
+      type v = f .others v seenType (λ e. omega arith) (λ e. omega arith)

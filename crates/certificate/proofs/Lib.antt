@@ -4,3 +4,4 @@ pub mod Forgetting
 pub mod Tally
 pub mod Line
 pub mod Verdict
+pub mod Determined

@@ -6,7 +6,7 @@ use native.Mathlib.Omega.{arith}
 use native.Mathlib.Nat.{zero-div, div-eq-of-lt, div-self, mul-div-cancel, mul-mod-left, pow-suc, one-mul, div-one}
 use native.Mathlib.Decide.{decLt, ℕ-discrete}
 use lib.Arith.{bin-ind, digits-mod}
-use lib.Bits.{bitAnd, bitOr, bitXor, differ, and-step, or-step, xor-step, and-shr, or-shr, xor-shr}
+use lib.Bits.{bitAnd, bitOr, bitXor, differ, and-step, or-step, xor-step, and-shr, or-shr, xor-shr, and-le-l, and-le-r, xor-add-and}
 use Rattle.certificate.specs.Tally.{bit}
 use lib.Pow.{ones-split, ones-lt, high, pow-pos, pow-lt, pow-add, shr-shr, shl-exact}
 
@@ -68,6 +68,18 @@ some-bit = bin-ind (λ m. (m ≡ 0 → ⊥) → (v : ℕ) × (m / 2 ^ v % 2 ≡ 
     go : (m : ℕ) → ((m / 2 ≡ 0 → ⊥) → (v : ℕ) × (m / 2 / 2 ^ v % 2 ≡ 1)) → (m ≡ 0 → ⊥) → Dec (m / 2 ≡ 0) → (v : ℕ) × (m / 2 ^ v % 2 ≡ 1)
     go m ih h (yes e) = (0, ap (λ (x : ℕ). x % 2) (div-one m) ∙ omega arith)
     go m ih h (no n) = let r = ih n in (1 + r .0, ap (λ (x : ℕ). x % 2) (sym (shr-shr m 1 (r .0))) ∙ r .1)
+
+-- numbers with the same bits are the same
+differ-same : (x : ℕ) → differ x x ≡ 0
+differ-same zero = refl
+differ-same (suc x) = differ-same x
+
+pub same-bits : (a b : ℕ) → ((v : ℕ) → bit a v ≡ bit b v) → a ≡ b
+same-bits a b e = go (ℕ-discrete (bitXor a b) 0)
+  where
+    go : Dec (bitXor a b ≡ 0) → a ≡ b
+    go (yes z) = omega (arith, xor-add-and a b, and-le-l a b, and-le-r a b)
+    go (no n) = let r = some-bit (bitXor a b) n in absurd (omega (arith, r .1, bit-xor a b (r .0) ∙ ap (differ (bit a (r .0))) (sym (e (r .0))) ∙ differ-same (bit a (r .0))))
 
 pub and-none : (a b v : ℕ) → bitAnd a b ≡ 0 → bit a v ≡ 1 → bit b v ≡ 1 → ⊥
 and-none a b v e p q = omega (arith, bit-and a b v, ap (λ (x : ℕ). bit x v) e, bit-zero v)

@@ -21,14 +21,14 @@ use Rattle.certificate.proofs.Certificate.{Reached, Ranked, sound-below
 use Rattle.certificate.proofs.Mask.{some-bit, has-not-zero}
 
 -- the largest slack gives the kept number, and no other
-kept-of : (es : List Edge) (L : ℕ → ℕ) (v m n : ℕ) → Most (among es) L v m → n ≡ m + 1 → Kept (among es) L v n
+pub kept-of : (es : List Edge) (L : ℕ → ℕ) (v m n : ℕ) → Most (among es) L v m → n ≡ m + 1 → Kept (among es) L v n
 kept-of es L v m n x e = record {
   some = omega arith;
   all = λ y k h. omega (arith, x .all y k h);
   real = ⊎-elim (λ z. inl (omega arith)) (λ r. inr (r .0, r .1, r .2, omega (arith, r .3))) (x .real);
 }
 
-kept-is : (es : List Edge) (L : ℕ → ℕ) (v m n : ℕ) → Most (among es) L v m → Kept (among es) L v n → n ≡ m + 1
+pub kept-is : (es : List Edge) (L : ℕ → ℕ) (v m n : ℕ) → Most (among es) L v m → Kept (among es) L v n → n ≡ m + 1
 kept-is es L v m n x y = kept-one y (kept-of es L v m (m + 1) x refl)
 
 -- the place of a stream in the line is its rank

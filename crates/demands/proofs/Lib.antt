@@ -1,3 +1,6 @@
+pub mod Refusing
 pub mod Answering
 pub mod Running
+pub mod Back
+pub mod Unread
 pub mod Demands

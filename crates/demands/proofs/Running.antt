@@ -7,57 +7,35 @@ use mathlib.Core.List.{List, [], _∷_, _++_, map, append-nil}
 use native.Mathlib.Omega.{arith}
 use borrow.Author.Tests.{eq-eqb, eqb-true, eqb-false, ltb-false}
 use lib.Dec.{eqb, ltb}
-use lib.ListN.{length, take, drop, replicate}
+use lib.ListN.{length, take, drop}
 use lib.Seq.{take-append-seam}
 use Rattle.value.specs.declared.Value.{Value}
 use Rattle.run.specs.Run as run
 use Rattle.basis.specs.Given.{Given}
-use Rattle.run.specs.Run.{Rec, Call, words, answer, storeAfter}
+use Rattle.run.specs.Run.{Rec, Call, words, answer, Lent}
+use Rattle.run.proofs.Calls.{lent-same}
 use Rattle.run.proofs.Demands.{demand3}
 use Rattle.meaning.specs.Plans.{FitsIn}
 use Rattle.output.specs.Encoding.{Emitted}
 use Rattle.announce.specs.Announced.{announced}
 use Rattle.prepare.specs.PlanFor.{planFor}
 use Rattle.prepare.proofs.Accepted.{plan-words, plan-announced}
-use Rattle.monitor.specs.declared.Phase.the-variants.{Reading}
 use Rattle.monitor.specs.declared.Run.{Run}
 use Rattle.monitor.specs.declared.Fault.{Fault}
 use Rattle.monitor.specs.declared.Answer.{Answer}
-use Rattle.monitor.specs.Turns.{bytesOn}
-use Rattle.monitor.specs.Refusals.{fine, refuseIf, afterTable, openFault, rowFault, drainFault}
-use Rattle.monitor.specs.Calls.{After, refusal, acceptance, zeroRun, openCall, rowCall, drainedPhase, drainCall, Leaves}
+use Rattle.monitor.specs.Refusals.{fine, refuseIf, afterTable, openFault}
+use Rattle.monitor.specs.Calls.{After, refusal, acceptance, zeroRun, openCall}
 use Rattle.demands.specs.Runs.{recOf, Numbered, bytesGiven}
 use Rattle.demands.specs.Ran.{Ran, opened, row, closed, drained, refused-open, refused-row, refused-drain, refused-close, CodeMeets}
+use Rattle.demands.specs.Demands.{Untouched}
+use Rattle.demands.proofs.Refusing.{refusals}
 use Rattle.demands.proofs.Answering.{row-is, drain-is, close-is, open-is}
 
 -- ---- refused calls leave the store
 
-module _ (f : Fault) (r next : Run) (st out st1 bytes : List ℕ) where
-  refused-by : (b : Bool) → (cond b (acceptance next st1 bytes out) (refusal r f st out) .answer .number ≡ 0 → ⊥) → cond b (acceptance next st1 bytes out) (refusal r f st out) .store ≡ st
-  refused-by true n = absurd (n refl)
-  refused-by false n = refl
-
-open-leaves-store : (s st : List ℕ) → (openCall s st .answer .number ≡ 0 → ⊥) → openCall s st .store ≡ st
-unfolding openCall
-open-leaves-store s st n =
-    refused-by (openFault s (length st)) zeroRun (record { look = announced s .look; kept = announced s .kept; rows = 0; phase = Reading; done = 0 }) st []
-    (replicate (announced s .words) 0 ++ drop (announced s .words) st) [] (eqb (openFault s (length st) .number) 0) n
-
-row-leaves-store : (s : List ℕ) (r : Run) (ws st out : List ℕ) → (rowCall s r ws st out .answer .number ≡ 0 → ⊥) → rowCall s r ws st out .store ≡ st
-unfolding rowCall
-row-leaves-store s r ws st out n =
-    refused-by (rowFault s r (length st) ws (length out)) r (record { look = r .look; kept = r .kept; rows = r .rows + 1; phase = Reading; done = 0 }) st out
-    (storeAfter (planFor s) (r .rows + 1) (r .rows) ws st) (bytesOn s (r .rows + 1) (r .rows) ws st) (eqb (rowFault s r (length st) ws (length out) .number) 0) n
-
-drain-leaves-store : (s : List ℕ) (r : Run) (st out : List ℕ) → (drainCall s r st out .answer .number ≡ 0 → ⊥) → drainCall s r st out .store ≡ st
-unfolding drainCall
-drain-leaves-store s r st out n =
-    refused-by (drainFault s r (length st) (length out)) r
-    (record { look = r .look; kept = r .kept; rows = r .rows; phase = drainedPhase (r .done + 1) (announced s .closing); done = r .done + 1 }) st out
-    (storeAfter (planFor s) (r .rows) (r .rows + r .done) [] st) (bytesOn s (r .rows) (r .rows + r .done) [] st) (eqb (drainFault s r (length st) (length out) .number) 0) n
-
-left-store : {y : After} {a : Answer} {st st1 out1 : List ℕ} → Leaves y a st1 out1 → (a .number ≡ 0 → ⊥) → ((y .answer .number ≡ 0 → ⊥) → y .store ≡ st) → st1 ≡ st
-left-store l n h = l .store-is ∙ h (λ e. n (ap (λ (z : Answer). z .number) (l .answer-is) ∙ e))
+module _ {y : After} {a : Answer} {r : Run} {st lent left after out : List ℕ} where
+  refused-leaves : Lent st lent left after → a ≡ y .answer → left ≡ y .store → (a .number ≡ 0 → ⊥) → ((y .answer .number ≡ 0 → ⊥) → Untouched y r lent out) → after ≡ st
+  refused-leaves l e f n h = lent-same l (f ∙ h (λ q. n (ap (λ (z : Answer). z .number) e ∙ q)) .store-is)
 
 -- ---- an accepted opening
 
@@ -100,6 +78,9 @@ module _ (s st₀ : List ℕ) where
   as-run : {ks : List (Call ℕ)} {c d : Rec} {st st1 : List ℕ} {gs : List (List (Given Value))} → c ≡ d → st1 ≡ st → run.Run (planFor s) st₀ ks c st gs → run.Run (planFor s) st₀ ks d st1 gs
   as-run {ks} {gs = gs} e g x = rw (← e, g) x
 
+  stays : {ks : List (Call ℕ)} {r : Run} {st after : List ℕ} {log : List (List ℕ)} → after ≡ st → Follows s st₀ ks r st log → Follows s st₀ ks r after log
+  stays e f = record { given = f .given; bytes-are = f .bytes-are; theory = as-run refl e (f .theory); numbered = f .numbered }
+
   still-numbered : {r next : Run} → Numbered s r → (next .look ≡ r .look) × (next .kept ≡ r .kept) → Numbered s next
   still-numbered n q = record { accepted = n .accepted; look-is = q .0 ∙ n .look-is; kept-is = q .1 ∙ n .kept-is }
 
@@ -136,16 +117,9 @@ module _ (s st₀ : List ℕ) where
         theory = rw append-nil at (as-run (i .record-is) (i .store-is) (run.taken (f .theory) run.close (i .taken-is ∙ eq-eqb _ _ n)));
         numbered = still-numbered (f .numbered) (i .numbers-stay);
       }
-  follows (refused-open {st = st} x q o n) =
-      let f = follows x in
-      let same = o .store-is ∙ open-leaves-store q st (λ e. n (ap (λ (z : Answer). z .number) (o .answer-is) ∙ e)) in
-      record { given = f .given; bytes-are = f .bytes-are; theory = as-run refl same (f .theory); numbered = f .numbered }
-  follows (refused-row {st = st} x q r′ ws out l n) =
-      let f = follows x in
-      record { given = f .given; bytes-are = f .bytes-are; theory = as-run refl (left-store l n (row-leaves-store q r′ ws st out)) (f .theory); numbered = f .numbered }
-  follows (refused-drain {st = st} x q r′ out l n) =
-      let f = follows x in
-      record { given = f .given; bytes-are = f .bytes-are; theory = as-run refl (left-store l n (drain-leaves-store q r′ st out)) (f .theory); numbered = f .numbered }
+  follows (refused-open {r = r} x q {lent = lent} l o n) = stays (refused-leaves l (o .answer-is) (o .store-is) n (refusals q r [] lent [] .3)) (follows x)
+  follows (refused-row x q r′ ws out {lent = lent} l o n) = stays (refused-leaves l (o .answer-is) (o .store-is) n (refusals q r′ ws lent out .0)) (follows x)
+  follows (refused-drain x q r′ out {lent = lent} l o n) = stays (refused-leaves l (o .answer-is) (o .store-is) n (refusals q r′ [] lent out .1)) (follows x)
   follows (refused-close x q r′ e n) = follows x
 
   -- demand 3, of every point that a run of the code can reach

@@ -1,3 +1,4 @@
 pub mod Runs
 pub mod Ran
+pub mod Succession
 pub mod Demands

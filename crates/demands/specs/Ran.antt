@@ -7,7 +7,7 @@ use lib.ListN.{length, take}
 use Rattle.value.specs.declared.Value.{Value}
 use Rattle.run.specs.Run as run
 use Rattle.basis.specs.Given.{Given}
-use Rattle.run.specs.Run.{Call}
+use Rattle.run.specs.Run.{Call, Lent}
 use Rattle.run.specs.Demands.{Demand3}
 use Rattle.prepare.specs.PlanFor.{planFor}
 use Rattle.monitor.specs.declared.Run.{Run}
@@ -16,7 +16,8 @@ use Rattle.monitor.specs.Calls.{openCall, rowCall, closeCall, drainCall, Leaves
 use Rattle.demands.specs.Runs.{recOf, bytesGiven}
 
 -- On the bytes s and the store st₀: the accepted calls, the last first; the record and the store as they are now; the bytes of each turn.
--- A refused call may bring any bytes, any record and any words.
+-- "refused calls may fall anywhere and bring anything": any bytes, record, words and output, and another store, this one or a part of it;
+-- what it was lent is then as its contract left it.
 pub data Ran (s st₀ : List ℕ) : List (Call ℕ) → Run → List ℕ → List (List ℕ) → Type 0 where
   opened : {a : Answer} {st : List ℕ} → Opens (openCall s st₀) a st → a .number ≡ 0 → Ran s st₀ [] (a .run) st []
   row :
@@ -32,15 +33,16 @@ pub data Ran (s st₀ : List ℕ) : List (Call ℕ) → Run → List ℕ → Lis
       Ran s st₀ (run.drain (length out) ∷ ks) (a .run) st1 (log ++ (take (a .count) out1 ∷ []))
   refused-open :
       {ks : List (Call ℕ)} {r : Run} {st : List ℕ} {log : List (List ℕ)} → Ran s st₀ ks r st log →
-      (q : List ℕ) {a : Answer} {st1 : List ℕ} → Opens (openCall q st) a st1 → (a .number ≡ 0 → ⊥) → Ran s st₀ ks r st1 log
+      (q : List ℕ) {a : Answer} {lent left after : List ℕ} → Lent st lent left after → Opens (openCall q lent) a left → (a .number ≡ 0 → ⊥) →
+      Ran s st₀ ks r after log
   refused-row :
       {ks : List (Call ℕ)} {r : Run} {st : List ℕ} {log : List (List ℕ)} → Ran s st₀ ks r st log →
-      (q : List ℕ) (r′ : Run) (ws out : List ℕ) {a : Answer} {st1 out1 : List ℕ} → Leaves (rowCall q r′ ws st out) a st1 out1 → (a .number ≡ 0 → ⊥) →
-      Ran s st₀ ks r st1 log
+      (q : List ℕ) (r′ : Run) (ws out : List ℕ) {a : Answer} {lent left after out1 : List ℕ} → Lent st lent left after → Leaves (rowCall q r′ ws lent out) a left out1 → (a .number ≡ 0 → ⊥) →
+      Ran s st₀ ks r after log
   refused-drain :
       {ks : List (Call ℕ)} {r : Run} {st : List ℕ} {log : List (List ℕ)} → Ran s st₀ ks r st log →
-      (q : List ℕ) (r′ : Run) (out : List ℕ) {a : Answer} {st1 out1 : List ℕ} → Leaves (drainCall q r′ st out) a st1 out1 → (a .number ≡ 0 → ⊥) →
-      Ran s st₀ ks r st1 log
+      (q : List ℕ) (r′ : Run) (out : List ℕ) {a : Answer} {lent left after out1 : List ℕ} → Lent st lent left after → Leaves (drainCall q r′ lent out) a left out1 → (a .number ≡ 0 → ⊥) →
+      Ran s st₀ ks r after log
   refused-close :
       {ks : List (Call ℕ)} {r : Run} {st : List ℕ} {log : List (List ℕ)} → Ran s st₀ ks r st log →
       (q : List ℕ) (r′ : Run) {a : Answer} → a ≡ closeCall q r′ .answer → (a .number ≡ 0 → ⊥) → Ran s st₀ ks r st log

@@ -4,6 +4,7 @@
 ghost use mathlib.Core.Path.{_≡_};
 ghost use mathlib.Core.List.{[]};
 ghost use Rattle.announce.specs.Announced.{announced};
+ghost use Rattle.announce.specs.Conditions.{Answers};
 ghost use Rattle.dock.specs.Lent.{phaseOf, numberOf, runOf, replyOf, strangeReply, lentOpen, lentRow, lentClose, lentDrain, Gives, Lends};
 use announce::Checked;
 use limits::STREAMS_MOST;
@@ -171,18 +172,23 @@ fn opened(table: &[u8], store: &mut [u32]) -> Reply
 // What the check announces of a table.
 #[no_mangle]
 pub extern "C" fn glasspuddle_check(table: &[u8]) -> Checked
-    ensures { λ r. ⌜ r ≡ announced (now (table .entry)) ⌝ }
+    ensures { λ r. ⌜ (r ≡ announced (now (table .entry))) × Answers (now (table .entry)) r ⌝ }
 {
     announce::check(table)
 }
 
-// Opens a run. The record is filled and not read: what lay there changes nothing. (antt has the word `record` for its own, hence «record».)
+// Opens a run. The record is filled and not read: what lay there changes nothing. It is filled field by field, as the other entries write back:
+// so none of them writes the byte of padding behind the phase. (antt has the word `record` for its own, hence «record».)
 #[no_mangle]
 pub extern "C" fn glasspuddle_open(record: &mut Record, table: &[u8], store: &mut [u32]) -> Told
     ensures { λ r. ⌜ Lends (lentOpen (now (table .entry)) (now (store .entry))) (now («record» .exit)) r (now (store .exit)) [] ⌝ }
 {
     let reply = opened(table, store);
-    *record = reply.held;
+    record.look = reply.held.look;
+    record.kept = reply.held.kept;
+    record.rows = reply.held.rows;
+    record.done = reply.held.done;
+    record.phase = reply.held.phase;
     reply.told
 }
 

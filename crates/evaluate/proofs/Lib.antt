@@ -4,3 +4,4 @@ pub mod Leaves
 pub mod Operands
 pub mod Steps
 pub mod Turns
+pub mod Determined

@@ -1,7 +1,6 @@
--- What holds of the head at a place: a fault's number is a node's; a node has no fault, ends in the table and behind its start, and refers
--- to a stream of the table by an offset in range. Assumes nothing.
+-- What holds of the head at a place: a fault's number is a node's; a node ends in the table and behind its start, and refers to a stream
+-- of the table by an offset in range. Assumes nothing.
 use mathlib.Core.Path.{_≡_, refl}
-use mathlib.Core.Bool.{cond}
 use mathlib.Core.List.{List}
 use mathlib.Core.Logic.{_⊎_, inl, inr}
 use Prim.Native.Nat.{ℕ, zero, suc, _+_, _-_, _≤_, _<_}
@@ -18,6 +17,7 @@ use Rattle.node.specs.Node.{NodeRead, Fault, Got, signedOf, nodeOf, nodeBy, nod
 use Rattle.node.specs.Head.{Head}
 use Rattle.node.specs.Head as head
 use Rattle.node.specs.Kinds.{ruleOf}
+use Rattle.node.proofs.Faults.{neither, not-zero, below-of}
 use Rattle.node.proofs.Heads.{faultless}
 use Rattle.expression.specs.References.{NodeRefers, Ranged}
 
@@ -54,13 +54,6 @@ fault-number ts w (At v k d) =
     pick-case FieldOrType (ltb v (length ts)) _ wrongField (λ _. first-fault _ _ (zero-fault k) (first-fault _ _ (word-fault _ d) (type-fault _ w))) (λ _. inr (omega arith))
 fault-number ts w (Operator k) = type-fault _ w
 
-below-of : (v n x : ℕ) → cond (ltb v n) x wrongField ≡ 0 → (v < n) × (x ≡ 0)
-below-of v n x = pick-case (λ (y : ℕ). y ≡ 0 → (v < n) × (x ≡ 0)) (ltb v n) x wrongField (λ p q. (ltb-true v n p, q)) (λ _ q. absurd (omega arith))
-
-not-zero : (k : ℤ) (b : ℕ) → first (zeroFault k) b ≡ 0 → k ≡ pos 0 → ⊥
-unfolding first zeroFault
-not-zero k b q e = let z : _≡_ {A = ℕ} 4 0 = rw e at q in omega arith
-
 -- ---- the offset of a node that is read
 
 abbrev OffsetRanged : Node → Type 0
@@ -69,7 +62,7 @@ OffsetRanged (Now v) = Unit {0}
 OffsetRanged (At v k d) = Ranged k
 OffsetRanged (Operator k) = Unit {0}
 
-signed-ranged : (b : ℕ) → Ranged (signedOf b)
+pub signed-ranged : (b : ℕ) → Ranged (signedOf b)
 unfolding signedOf
 signed-ranged b = pick-case Ranged (ltb b 128) _ _ (λ p. record { ahead = omega (arith, ltb-true b 128 p); back = omega arith }) (λ p. record { ahead = omega arith; back = omega (arith, ltb-false b 128 p) })
 
@@ -87,7 +80,7 @@ pub fault-free-refers : (ts : List ℕ) (w : ℕ) (n : Node) → faultOf ts w n 
 unfolding faultOf
 fault-free-refers ts w (Constant t x) q r = tt
 fault-free-refers ts w (Now v) q r = below-of v (length ts) _ q .0
-fault-free-refers ts w (At v k d) q r = let b = below-of v (length ts) _ q in (b .0, r, not-zero k _ (b .1))
+fault-free-refers ts w (At v k d) q r = let b = below-of v (length ts) _ q in (b .0, r, not-zero k (neither _ _ (b .1) .0))
 fault-free-refers ts w (Operator k) q r = tt
 
 -- ---- the head at a place
@@ -109,23 +102,22 @@ node-sound s at =
     (λ _. omega arith)
 
 -- a node that a head may hand on
-pub record Fine (ts s : List ℕ) (w at : ℕ) (n : Node) (m : ℕ) : Type 0 where
-  pub faultless : faultOf ts w n ≡ 0
+pub record Fine (ts s : List ℕ) (at : ℕ) (n : Node) (m : ℕ) : Type 0 where
   pub refers : NodeRefers (length ts) n
   pub behind : at < m
   pub within : m ≤ length s
 
-abbrev pub HeadSound : List ℕ → List ℕ → ℕ → ℕ → Head → Type 0
-HeadSound ts s w at (head.Refused why) = NodeFault why
-HeadSound ts s w at (head.Leaf n m) = Fine ts s w at n m
-HeadSound ts s w at (head.Operator k m) = Fine ts s w at (Operator k) m
+abbrev pub HeadSound : List ℕ → List ℕ → ℕ → Head → Type 0
+HeadSound ts s at (head.Refused why) = NodeFault why
+HeadSound ts s at (head.Leaf n m) = Fine ts s at n m
+HeadSound ts s at (head.Operator k m) = Fine ts s at (Operator k) m
 
-head-of : (ts s : List ℕ) (w at : ℕ) (n : Node) (m : ℕ) → Fine ts s w at n m → HeadSound ts s w at (headOf n m)
+head-of : (ts s : List ℕ) (at : ℕ) (n : Node) (m : ℕ) → Fine ts s at n m → HeadSound ts s at (headOf n m)
 unfolding headOf
-head-of ts s w at (Constant t x) m f = f
-head-of ts s w at (Now v) m f = f
-head-of ts s w at (At v k d) m f = f
-head-of ts s w at (Operator k) m f = f
+head-of ts s at (Constant t x) m f = f
+head-of ts s at (Now v) m f = f
+head-of ts s at (At v k d) m f = f
+head-of ts s at (Operator k) m f = f
 
 own-number : {x : ℕ} → (x ≡ 0 → ⊥) → FieldOrType x → NodeFault x
 own-number f (inl e) = absurd (f e)
@@ -136,15 +128,15 @@ unfolding faultAt
 any-number l ts w n =
     pick-case (λ (x : ℕ). (x ≡ 0 → ⊥) → NodeFault x) (eqb l 0) tooDeep (faultOf ts w n) (λ p f. omega arith) (λ p f. own-number f (fault-number ts w n))
 
-head-by : (l : ℕ) (ts s : List ℕ) (w at : ℕ) (r : NodeRead) → NodeSound s at r → HeadSound ts s w at (headBy l ts w r)
+head-by : (l : ℕ) (ts s : List ℕ) (w at : ℕ) (r : NodeRead) → NodeSound s at r → HeadSound ts s at (headBy l ts w r)
 unfolding headBy
 head-by l ts s w at (Fault why) h = h
 head-by l ts s w at (Got n m) h =
-    pick-case (HeadSound ts s w at) (eqb (faultAt l ts w n) 0) _ _ (λ p. fine (faultless l ts w n (eqb-true _ _ p) .1)) (λ p. any-number l ts w n (eqb-false _ _ p))
+    pick-case (HeadSound ts s at) (eqb (faultAt l ts w n) 0) _ _ (λ p. fine (faultless l ts w n (eqb-true _ _ p) .1)) (λ p. any-number l ts w n (eqb-false _ _ p))
   where
-    fine : faultOf ts w n ≡ 0 → HeadSound ts s w at (headOf n m)
-    fine q = head-of ts s w at n m (record { faultless = q; refers = fault-free-refers ts w n q (h .0); behind = h .1; within = h .2 })
+    fine : faultOf ts w n ≡ 0 → HeadSound ts s at (headOf n m)
+    fine q = head-of ts s at n m (record { refers = fault-free-refers ts w n q (h .0); behind = h .1; within = h .2 })
 
-pub head-sound : (l : ℕ) (ts s : List ℕ) (w at : ℕ) → HeadSound ts s w at (headAt l ts s w at)
+pub head-sound : (l : ℕ) (ts s : List ℕ) (w at : ℕ) → HeadSound ts s at (headAt l ts s w at)
 unfolding headAt
 head-sound l ts s w at = head-by l ts s w at (nodeAt s at) (node-sound s at)

@@ -48,7 +48,7 @@ module _ (s : List ℕ) (at : ℕ) (lf : isLeaf (standing s at) ≡ true) where
 
 pub constant-leaf : {ts : List ℕ} {t x w at next r : ℕ} {seen : List (List ℕ)} → r ≡ answered ts w (Constant t x) at next → Seen ts seen → LeafNoted (Constant t x) w at next ts seen seen r
 unfolding nodeNoted
-constant-leaf e s = record { answer = e; rises = λ _. refl; falls = λ _. refl; left = s }
+constant-leaf e s = record { answer = e; rises = λ _. refl; falls = λ _. refl; others = λ j h g. refl; left = s }
 
 -- an operator is none
 pub operator-leaf : {X : Type 0} (k : ℕ) → isLeaf (Operator k) ≡ true → X

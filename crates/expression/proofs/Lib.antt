@@ -1,8 +1,11 @@
 pub mod Measures
+pub mod NodeKinds
 pub mod Heads
 pub mod Operands
 pub mod References
 pub mod Sound
+pub mod Generates
+pub mod Parses
 pub mod Scan
 pub mod Leaves
 pub mod Operators
@@ -10,3 +13,4 @@ pub mod Notes
 pub mod Noting
 pub mod Seeing
 pub mod Extremes
+pub mod Determined

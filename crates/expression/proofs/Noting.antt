@@ -6,7 +6,7 @@ use mathlib.Core.List.{List}
 use mathlib.Core.Logic.{⊎-elim}
 use Prim.Native.Nat.{ℕ, _*_, _+_, _≤_, _<_}
 use native.Mathlib.Omega.{arith}
-use borrow.Author.Tests.{eq-eqb, ne-eqb, eqb-true, lt-ltb, le-ltb}
+use borrow.Author.Tests.{eq-eqb, ne-eqb, lt-ltb, le-ltb}
 use lib.Dec.{eqb, ltb}
 use lib.IntN.{ℤ, pos}
 use lib.ListN.{length, getD}
@@ -14,14 +14,15 @@ use Rattle.limits.specs.Limits.{mostStreams}
 use Rattle.limits.specs.Refusals.{wrongField, wrongType}
 use Rattle.basis.specs.Notes.{rising, falling}
 use Rattle.basis.specs.Rows.{entry, column, put, Shaped}
-use Rattle.basis.proofs.Rows.{column-at, column-put, column-left, shaped-put}
+use Rattle.basis.proofs.Rows.{column-at, column-put, column-left, shaped-put, column-same}
 use Rattle.basis.proofs.Tests.{pick-case, lt-or-ge}
 use Rattle.node.specs.declared.Node.{Node}
 use Rattle.node.specs.declared.Node.the-variants.{Constant, Now, At}
-use Rattle.node.specs.Node.{typeFault, wordFault, zeroFault, first, faultOf}
+use Rattle.node.specs.Node.{typeFault, wordFault, zeroFault, faultOf}
+use Rattle.node.proofs.Faults.{first-none, first-some, word-fine, type-fine}
 use Rattle.expression.specs.References.{raised, nodeNoted}
 use Rattle.expression.specs.Seen.{seenType, seenRise, seenFall, seenEntries, noType, Seen}
-use Rattle.expression.specs.Scanning.{places, answered, otherFault, Raised, Noting, LeafNoted}
+use Rattle.expression.specs.Scanning.{places, answered, otherFault, Raised, NotesAlone, Noting, LeafNoted}
 use Rattle.expression.proofs.Notes.{raised-less, raised-enough}
 
 -- ---- rows
@@ -42,7 +43,7 @@ noted-both {v} {rise} {fall} p q = record {
   shape = λ s. q .shape (p .shape s);
   rises = λ s. q .others seenRise (λ e. omega arith) ∙ p .raises s;
   falls = λ s. q .raises (p .shape s) ∙ ap (raised v fall) (p .others seenFall (λ e. omega arith));
-  types = q .others seenType (λ e. omega arith) ∙ p .others seenType (λ e. omega arith);
+  others = λ j h g. q .others j g ∙ p .others j h;
 }
 
 -- rows of the same types
@@ -50,18 +51,18 @@ pub seen-same : {ts : List ℕ} {a b : List (List ℕ)} → Seen ts a → Shaped
 seen-same {a = a} {b = b} x s e = record { shape = s; few = x .few; typed = x .typed; types = λ v h. same v ∙ x .types v h; past = λ v h l. same v ∙ x .past v h l }
   where
     same : (v : ℕ) → entry b v seenType ≡ entry a v seenType
-    same v = sym (column-at seenType b v) ∙ ap (λ (l : List ℕ). getD l v 0) e ∙ column-at seenType a v
+    same v = column-same seenType v b a e
 
 -- ---- nodes without operands
 
 module _ (node : Node) (w at next : ℕ) {ts : List ℕ} {seen : List (List ℕ)} (x : Seen ts seen) where
   pub leaf-fault : {f : ℕ} → faultOf ts w node ≡ f → (f ≡ 0 → ⊥) → LeafNoted node w at next ts seen seen (f * places + at)
   unfolding answered
-  leaf-fault e z = record { answer = rw (e, ne-eqb _ _ z); rises = λ q. absurd (z (sym e ∙ q)); falls = λ q. absurd (z (sym e ∙ q)); left = x }
+  leaf-fault e z = record { answer = rw (e, ne-eqb _ _ z); rises = λ q. absurd (z (sym e ∙ q)); falls = λ q. absurd (z (sym e ∙ q)); others = λ j h g. refl; left = x }
 
-  leaf-fine : {seen′ : List (List ℕ)} → faultOf ts w node ≡ 0 → column seenRise seen′ ≡ nodeNoted rising node (column seenRise seen) → column seenFall seen′ ≡ nodeNoted falling node (column seenFall seen) → Seen ts seen′ → LeafNoted node w at next ts seen seen′ next
+  leaf-fine : {seen′ : List (List ℕ)} → faultOf ts w node ≡ 0 → column seenRise seen′ ≡ nodeNoted rising node (column seenRise seen) → column seenFall seen′ ≡ nodeNoted falling node (column seenFall seen) → NotesAlone seen seen′ → Seen ts seen′ → LeafNoted node w at next ts seen seen′ next
   unfolding answered
-  leaf-fine e r f l = record { answer = rw (eq-eqb _ _ e); rises = λ _. r; falls = λ _. f; left = l }
+  leaf-fine e r f o l = record { answer = rw (eq-eqb _ _ e); rises = λ _. r; falls = λ _. f; others = o; left = l }
 
 field : wrongField ≡ 0 → ⊥
 field e = omega arith
@@ -70,30 +71,13 @@ other-some : (t : ℕ) → otherFault t ≡ 0 → ⊥
 unfolding otherFault
 other-some t = pick-case (λ (x : ℕ). x ≡ 0 → ⊥) (eqb t noType) wrongField wrongType (λ _ e. omega arith) (λ _ e. omega arith)
 
--- a word of no flag, or a flag's
-word-fine : (t x : ℕ) → (t ≡ 0 → x ≤ 1) → wordFault t x ≡ 0
-unfolding wordFault
-word-fine t x h = pick-case (λ (n : ℕ). n ≡ 0) (eqb t 0) _ 0 (λ p. rw (le-ltb 1 x (h (eqb-true _ _ p)))) (λ p. refl)
-
 word-wrong : (t x : ℕ) → t ≡ 0 → 1 < x → wordFault t x ≡ wrongField
 unfolding wordFault
 word-wrong t x e h = rw (eq-eqb _ _ e, lt-ltb _ _ h)
 
-type-fine : (t w : ℕ) → t ≡ w → typeFault t w ≡ 0
-unfolding typeFault
-type-fine t w e = rw (eq-eqb _ _ e)
-
 type-wrong : (t w : ℕ) → (t ≡ w → ⊥) → typeFault t w ≡ wrongType
 unfolding typeFault
 type-wrong t w e = rw (ne-eqb _ _ e)
-
-first-none : (a b : ℕ) → a ≡ 0 → first a b ≡ b
-unfolding first
-first-none a b e = rw (eq-eqb _ _ e)
-
-first-some : (a b : ℕ) → (a ≡ 0 → ⊥) → first a b ≡ a
-unfolding first
-first-some a b e = rw (ne-eqb _ _ e)
 
 -- ---- a constant
 
@@ -155,7 +139,7 @@ module _ {ts : List ℕ} {seen : List (List ℕ)} (x : Seen ts seen) {v t : ℕ}
     unfolding faultOf nodeNoted
     now-fine e ea eb n =
         let l : v < length ts = inside (omega arith) in
-        leaf-fine (Now v) w at next x (there (omega arith) (ap (λ (n : ℕ). typeFault n w) (of-type l) ∙ type-fine t w e)) (rw (← ea) (n .rises (x .shape))) (rw (← eb) (n .falls (x .shape))) (seen-same x (n .shape (x .shape)) (n .types))
+        leaf-fine (Now v) w at next x (there (omega arith) (ap (λ (n : ℕ). typeFault n w) (of-type l) ∙ type-fine t w e)) (rw (← ea) (n .rises (x .shape))) (rw (← eb) (n .falls (x .shape))) (n .others) (seen-same x (n .shape (x .shape)) (n .others seenType (λ e. omega arith) (λ e. omega arith)))
 
     module _ {k : ℤ} {d : ℕ} where
       pub at-word : zeroFault k ≡ 0 → t ≡ 0 → 1 < d → LeafNoted (At v k d) w at next ts seen seen (wrongField * places + at)
@@ -175,7 +159,7 @@ module _ {ts : List ℕ} {seen : List (List ℕ)} (x : Seen ts seen) {v t : ℕ}
           let l : v < length ts = inside (omega arith) in
           leaf-fine (At v k d) w at next x
           (there (omega arith) (first-none _ _ z ∙ first-none _ _ (word-fine (getD ts v 0) d (λ q. h (sym (of-type l) ∙ q))) ∙ ap (λ (n : ℕ). typeFault n w) (of-type l) ∙ type-fine t w e))
-          (rw (← ea) (n .rises (x .shape))) (rw (← eb) (n .falls (x .shape))) (seen-same x (n .shape (x .shape)) (n .types))
+          (rw (← ea) (n .rises (x .shape))) (rw (← eb) (n .falls (x .shape))) (n .others) (seen-same x (n .shape (x .shape)) (n .others seenType (λ e. omega arith) (λ e. omega arith)))
 
 module _ {ts : List ℕ} {seen : List (List ℕ)} (x : Seen ts seen) (v w at next : ℕ) where
   pub now-far : mostStreams ≤ v → LeafNoted (Now v) w at next ts seen seen (wrongField * places + at)

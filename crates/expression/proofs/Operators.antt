@@ -27,16 +27,16 @@ use Rattle.expression.proofs.Scan.{scans-bad, refused-here, first-refus
 
 module _ (l : ℕ) (ts s : List ℕ) (w at : ℕ) {seen : List (List ℕ)} (x : Seen ts seen) (pl : at ≤ length s) where
   pub none-here : length s ≤ at → Scanning (parse l ts s w at) s ts seen seen (missing * places + at)
-  none-here h = refused-here l ts s w at x pl (heads.missing l ts s w at (none-read s at h)) (omega arith) (omega arith)
+  none-here h = refused-here l ts s w at (λ j h g. refl) x pl (heads.missing l ts s w at (none-read s at h)) (omega arith) (omega arith)
 
   module _ {op : ℕ} (h : at < length s) (e : op ≡ getD s at 0) where
     pub strange-here : manyKinds ≤ op → Scanning (parse l ts s w at) s ts seen seen (wrongKind * places + at)
-    strange-here g = refused-here l ts s w at x pl (heads.missing l ts s w at (strange-read s at h e (past-form op g))) (omega arith) (omega arith)
+    strange-here g = refused-here l ts s w at (λ j h g. refl) x pl (heads.missing l ts s w at (strange-read s at h e (past-form op g))) (omega arith) (omega arith)
 
     module _ (o : isLeaf (standing s at) ≡ false) (lev : 1 ≤ l) (lw : w < 3) (g : op < manyKinds) {r : ℕ} (er : r ≡ resultsOf (ruleOf op)) where
       pub other-here : r / 2 ^ w % 2 ≡ 0 → Scanning (parse l ts s w at) s ts seen seen (resultFault r * places + at)
       unfolding resultFault
-      other-here b = refused-here l ts s w at x pl (result-head s at h e o l ts w lev g lw er (λ q. omega (arith, b, q))) (number .0) (number .1)
+      other-here b = refused-here l ts s w at (λ j h g. refl) x pl (result-head s at h e o l ts w lev g lw er (λ q. omega (arith, b, q))) (number .0) (number .1)
         where
           number : (1 ≤ resultFault r) × (resultFault r < 16)
           number = pick-case (λ (n : ℕ). (1 ≤ n) × (n < 16)) (eqb r 0) _ _ (λ _. (omega arith, omega arith)) (λ _. (omega arith, omega arith))
@@ -125,7 +125,7 @@ pub deep-gives : {l : ℕ} {ts s : List ℕ} {w at op operands first d : ℕ} {s
 deep-gives {l} {ts} {s} {w} {at} {op} {operands} {first} {d} x lw e ed y =
     let p : parse (l - 1) ts s first (at + 1) ≡ bad d (at + 1) = rw e (deep-bad ts s first (at + 1) ∙ ap (λ (n : ℕ). bad n (at + 1)) (sym ed)) in
     let n = deep-number s (at + 1) in
-    scans-bad (first-bad l ts s w at (x .stands) refl (first-type x lw) (rest-type x lw refl) p) (rw ed (n .0)) (rw ed (n .1)) (omega (arith, x .within)) y
+    scans-bad (first-bad l ts s w at (x .stands) refl (first-type x lw) (rest-type x lw refl) p) (rw ed (n .0)) (rw ed (n .1)) (omega (arith, x .within)) (λ j h g. refl) y
 
 -- a leaf's scan at any level, one below l
 pub at-level : (l w at : ℕ) {ts s : List ℕ} {r : ℕ} {seen seen′ : List (List ℕ)} → 2 ≤ l → ((m : ℕ) → Scanning (parse (m + 1) ts s w at) s ts seen seen′ r) → Scanning (parse (l - 1) ts s w at) s ts seen seen′ r

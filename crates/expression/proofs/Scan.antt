@@ -22,7 +22,7 @@ use Rattle.expression.specs.Syntax.{Expr}
 use Rattle.expression.specs.Grammar.{Parsed, good, bad, parse}
 use Rattle.expression.specs.References.{noted}
 use Rattle.expression.specs.Seen.{seenRise, seenFall, Seen}
-use Rattle.expression.specs.Scanning.{places, answered, scannedOf, LeafNoted, Scanning}
+use Rattle.expression.specs.Scanning.{places, answered, scannedOf, NotesAlone, LeafNoted, Scanning}
 use Rattle.expression.proofs.Heads.{FieldOrType, fault-number}
 use Rattle.expression.proofs.Operands.{parse-refused, parse-leaf, first-bad, one-operand, second-bad, two-operands, third-bad, three-operands}
 
@@ -30,13 +30,13 @@ good-not-bad : {X : Type 0} {e : Expr} {n why place : ℕ} → bad why place ≡
 good-not-bad q = let z : _≡_ {A = ℕ} 0 1 = cc in absurd (omega arith)
 
 module _ {p : Parsed} {s ts : List ℕ} {seen seen′ : List (List ℕ)} where
-  pub scans-bad : {why place : ℕ} → p ≡ bad why place → 1 ≤ why → why < 16 → place ≤ length s → Seen ts seen′ → Scanning p s ts seen seen′ (why * places + place)
+  pub scans-bad : {why place : ℕ} → p ≡ bad why place → 1 ≤ why → why < 16 → place ≤ length s → NotesAlone seen seen′ → Seen ts seen′ → Scanning p s ts seen seen′ (why * places + place)
   unfolding scannedOf
-  scans-bad h a b c l = record { answer = rw h; placed = rw h (a, b, c); rises = λ e n q. good-not-bad (sym h ∙ q); falls = λ e n q. good-not-bad (sym h ∙ q); left = l }
+  scans-bad h a b c o l = record { answer = rw h; placed = rw h (a, b, c); rises = λ e n q. good-not-bad (sym h ∙ q); falls = λ e n q. good-not-bad (sym h ∙ q); others = o; left = l }
 
-  scans-good : {a : Expr} {n : ℕ} → p ≡ good a n → n ≤ length s → column seenRise seen′ ≡ noted rising a (column seenRise seen) → column seenFall seen′ ≡ noted falling a (column seenFall seen) → Seen ts seen′ → Scanning p s ts seen seen′ n
+  scans-good : {a : Expr} {n : ℕ} → p ≡ good a n → n ≤ length s → column seenRise seen′ ≡ noted rising a (column seenRise seen) → column seenFall seen′ ≡ noted falling a (column seenFall seen) → NotesAlone seen seen′ → Seen ts seen′ → Scanning p s ts seen seen′ n
   unfolding scannedOf
-  scans-good {a} h c r f l = record { answer = rw h; placed = rw h c; rises = λ e n q. r ∙ ap (λ (x : Expr). noted rising x (column seenRise seen)) (same q); falls = λ e n q. f ∙ ap (λ (x : Expr). noted falling x (column seenFall seen)) (same q); left = l }
+  scans-good {a} h c r f o l = record { answer = rw h; placed = rw h c; rises = λ e n q. r ∙ ap (λ (x : Expr). noted rising x (column seenRise seen)) (same q); falls = λ e n q. f ∙ ap (λ (x : Expr). noted falling x (column seenFall seen)) (same q); others = o; left = l }
     where
       same : {e : Expr} {n : ℕ} → p ≡ good e n → a ≡ e
       same q = cc
@@ -79,13 +79,13 @@ module _ {s ts : List ℕ} {seen seen′ : List (List ℕ)} {r : ℕ} (short : l
   scan-refused {p} x h = refused p x h
 
 -- a refusal as an answer
-refusal : {p q : Parsed} {s ts : List ℕ} {seen seen′ : List (List ℕ)} {r : ℕ} → Refused q s r → ((why place : ℕ) → q ≡ bad why place → p ≡ bad why place) → Seen ts seen′ → Scanning p s ts seen seen′ r
-refusal x f l = rw (x .is) (scans-bad (f (x .why) (x .place) (x .parsed)) (x .some) (x .few) (x .within) l)
+refusal : {p q : Parsed} {s ts : List ℕ} {seen seen′ : List (List ℕ)} {r : ℕ} → Refused q s r → ((why place : ℕ) → q ≡ bad why place → p ≡ bad why place) → NotesAlone seen seen′ → Seen ts seen′ → Scanning p s ts seen seen′ r
+refusal x f o l = rw (x .is) (scans-bad (f (x .why) (x .place) (x .parsed)) (x .some) (x .few) (x .within) o l)
 
-module _ (l : ℕ) (ts s : List ℕ) (w at : ℕ) {seen seen′ : List (List ℕ)} (lv : Seen ts seen′) (pl : at ≤ length s) where
+module _ (l : ℕ) (ts s : List ℕ) (w at : ℕ) {seen seen′ : List (List ℕ)} (alone : NotesAlone seen seen′) (lv : Seen ts seen′) (pl : at ≤ length s) where
   -- a fault at the place itself
   pub refused-here : {why : ℕ} → headAt l ts s w at ≡ head.Refused why → 1 ≤ why → why < 16 → Scanning (parse l ts s w at) s ts seen seen′ (why * places + at)
-  refused-here e a b = scans-bad (parse-refused l ts s w at e) a b pl lv
+  refused-here e a b = scans-bad (parse-refused l ts s w at e) a b pl alone lv
 
 -- ---- a node without operands
 
@@ -112,18 +112,18 @@ module _ (l : ℕ) (ts s : List ℕ) (w at : ℕ) {seen seen′ : List (List ℕ
       go true z =
           let a : r ≡ next = x .answer ∙ rw z in
           let h : headAt (l + 1) ts s w at ≡ head.Leaf node next = rw (e, lev, z) (leaf-head node next is) in
-          rw a (scans-good (parse-leaf (l + 1) ts s w at h) pn (x .rises (eqb-true _ _ z)) (x .falls (eqb-true _ _ z)) (x .left))
+          rw a (scans-good (parse-leaf (l + 1) ts s w at h) pn (x .rises (eqb-true _ _ z)) (x .falls (eqb-true _ _ z)) (x .others) (x .left))
       go false z =
           let a : r ≡ faultOf ts w node * places + at = x .answer ∙ rw z in
           let h : headAt (l + 1) ts s w at ≡ head.Refused (faultOf ts w node) = rw (e, lev, z) in
           let n = number (fault-number ts w node) (eqb-false _ _ z) in
-          rw a (refused-here (l + 1) ts s w at (x .left) pl h (n .0) (n .1))
+          rw a (refused-here (l + 1) ts s w at (x .others) (x .left) pl h (n .0) (n .1))
 
 -- ---- an operator of the kind k, whose rule is r, and the types f and q of its operands
 
 module _ (l : ℕ) (ts s : List ℕ) (w at : ℕ) {seen : List (List ℕ)} {k next : ℕ} {r : Rule} {f q : ℕ} (short : length s ≤ mostTable) (e : headAt l ts s w at ≡ head.Operator k next) (er : r ≡ ruleOf k) (ef : f ≡ meant (r .first) w) (eq : q ≡ meant (r .rest) w) {seen₁ : List (List ℕ)} {x : ℕ} (s1 : Scanning (parse (l - 1) ts s f next) s ts seen seen₁ x) where
   pub first-refused : places ≤ x → Scanning (parse l ts s w at) s ts seen seen₁ x
-  first-refused h = refusal (scan-refused short s1 h) (λ why place p. first-bad l ts s w at e er ef eq p) (s1 .left)
+  first-refused h = refusal (scan-refused short s1 h) (λ why place p. first-bad l ts s w at e er ef eq p) (s1 .others) (s1 .left)
 
   module _ (h : x < places) where
     a : Ended (parse (l - 1) ts s f next) s ts seen seen₁ x
@@ -131,11 +131,14 @@ module _ (l : ℕ) (ts s : List ℕ) (w at : ℕ) {seen : List (List ℕ)} {k ne
 
     one-ended : r .operands ≡ 1 → Scanning (parse l ts s w at) s ts seen seen₁ x
     unfolding noted
-    one-ended o = scans-good (one-operand l ts s w at e er ef eq (a .parsed) o) (a .behind) (a .rises) (a .falls) (s1 .left)
+    one-ended o = scans-good (one-operand l ts s w at e er ef eq (a .parsed) o) (a .behind) (a .rises) (a .falls) (s1 .others) (s1 .left)
 
     module _ (o1 : r .operands ≡ 1 → ⊥) {seen₂ : List (List ℕ)} {y : ℕ} (s2 : Scanning (parse (l - 1) ts s q x) s ts seen₁ seen₂ y) where
+      others₂ : NotesAlone seen seen₂
+      others₂ j h g = s2 .others j h g ∙ s1 .others j h g
+
       pub second-refused : places ≤ y → Scanning (parse l ts s w at) s ts seen seen₂ y
-      second-refused g = refusal (scan-refused short s2 g) (λ why place p. second-bad l ts s w at e er ef eq (a .parsed) o1 p) (s2 .left)
+      second-refused g = refusal (scan-refused short s2 g) (λ why place p. second-bad l ts s w at e er ef eq (a .parsed) o1 p) others₂ (s2 .left)
 
       module _ (g : y < places) where
         b : Ended (parse (l - 1) ts s q x) s ts seen₁ seen₂ y
@@ -149,20 +152,23 @@ module _ (l : ℕ) (ts s : List ℕ) (w at : ℕ) {seen : List (List ℕ)} {k ne
 
         two-ended : r .operands ≡ 2 → Scanning (parse l ts s w at) s ts seen seen₂ y
         unfolding noted
-        two-ended o = scans-good (two-operands l ts s w at e er ef eq (a .parsed) o1 (b .parsed) o) (b .behind) rises₂ falls₂ (s2 .left)
+        two-ended o = scans-good (two-operands l ts s w at e er ef eq (a .parsed) o1 (b .parsed) o) (b .behind) rises₂ falls₂ others₂ (s2 .left)
 
         -- the scan of the third operand answers for the whole
         pub three-scanned : (r .operands ≡ 2 → ⊥) → {seen₃ : List (List ℕ)} {z : ℕ} → Scanning (parse (l - 1) ts s q y) s ts seen₂ seen₃ z → Scanning (parse l ts s w at) s ts seen seen₃ z
         unfolding noted
         three-scanned o2 {seen₃} {z} s3 = ⊎-elim fine wrong (lt-or-ge z places)
           where
+            others₃ : NotesAlone seen seen₃
+            others₃ j h g = s3 .others j h g ∙ others₂ j h g
+
             fine : z < places → Scanning (parse l ts s w at) s ts seen seen₃ z
             fine i =
                 let c = scan-ended short s3 i in
-                scans-good (three-operands l ts s w at e er ef eq (a .parsed) o1 (b .parsed) o2 (c .parsed)) (c .behind) (c .rises ∙ ap (noted rising (c .expr)) rises₂) (c .falls ∙ ap (noted falling (c .expr)) falls₂) (s3 .left)
+                scans-good (three-operands l ts s w at e er ef eq (a .parsed) o1 (b .parsed) o2 (c .parsed)) (c .behind) (c .rises ∙ ap (noted rising (c .expr)) rises₂) (c .falls ∙ ap (noted falling (c .expr)) falls₂) others₃ (s3 .left)
 
             wrong : places ≤ z → Scanning (parse l ts s w at) s ts seen seen₃ z
-            wrong i = refusal (scan-refused short s3 i) (λ why place p. third-bad l ts s w at e er ef eq (a .parsed) o1 (b .parsed) o2 p) (s3 .left)
+            wrong i = refusal (scan-refused short s3 i) (λ why place p. third-bad l ts s w at e er ef eq (a .parsed) o1 (b .parsed) o2 p) others₃ (s3 .left)
 
       pub two-scanned : r .operands ≡ 2 → Scanning (parse l ts s w at) s ts seen seen₂ y
       two-scanned o = ⊎-elim (λ g. two-ended g o) second-refused (lt-or-ge y places)

@@ -15,7 +15,7 @@ use Rattle.node.specs.Node.{faultOf}
 use Rattle.expression.specs.Syntax.{Expr}
 use Rattle.expression.specs.Grammar.{Parsed, good, bad}
 use Rattle.expression.specs.References.{raised, nodeNoted, noted}
-use Rattle.expression.specs.Seen.{seenType, seenRise, seenFall, seenEntries, noType, Seen}
+use Rattle.expression.specs.Seen.{seenRise, seenFall, seenEntries, noType, Seen}
 
 -- An answer is one number: the place behind what was scanned; or the number of a fault, times `places`, and its place.
 abbrev pub places : ℕ
@@ -39,12 +39,16 @@ pub record Raised (v i x : ℕ) (seen seen′ : List (List ℕ)) : Type 0 where
   pub raises : Shaped mostStreams seenEntries seen → column i seen′ ≡ raised v x (column i seen)
   pub others : (j : ℕ) → (j ≡ i → ⊥) → column j seen′ ≡ column j seen
 
+-- nothing but notes is changed
+abbrev pub NotesAlone : List (List ℕ) → List (List ℕ) → Type 0
+NotesAlone seen seen′ = (j : ℕ) → (j ≡ seenRise → ⊥) → (j ≡ seenFall → ⊥) → column j seen′ ≡ column j seen
+
 -- a reference to v noted: `rise` and `fall` are the notes of its weight
 pub record Noting (v rise fall : ℕ) (seen seen′ : List (List ℕ)) : Type 0 where
   pub shape : Shaped mostStreams seenEntries seen → Shaped mostStreams seenEntries seen′
   pub rises : Shaped mostStreams seenEntries seen → column seenRise seen′ ≡ raised v rise (column seenRise seen)
   pub falls : Shaped mostStreams seenEntries seen → column seenFall seen′ ≡ raised v fall (column seenFall seen)
-  pub types : column seenType seen′ ≡ column seenType seen
+  pub others : NotesAlone seen seen′
 
 -- a place of a table, and a type
 abbrev pub CanNote : (wanted at : ℕ) → Type 0
@@ -55,6 +59,7 @@ pub record LeafNoted (node : Node) (w at next : ℕ) (ts : List ℕ) (seen seen�
   pub answer : r ≡ answered ts w node at next
   pub rises : faultOf ts w node ≡ 0 → column seenRise seen′ ≡ nodeNoted rising node (column seenRise seen)
   pub falls : faultOf ts w node ≡ 0 → column seenFall seen′ ≡ nodeNoted falling node (column seenFall seen)
+  pub others : NotesAlone seen seen′
   pub left : Seen ts seen′
 
 abbrev pub LeafScanned : Node → (w at next : ℕ) (seen seen′ : List (List ℕ)) → ℕ → Type 0
@@ -75,10 +80,11 @@ Placed n (good e m) = m ≤ n
 Placed n (bad why place) = (1 ≤ why) × (why < 16) × (place ≤ n)
 
 -- a scan answers as the grammar does, and notes the references of the expression that it read. Where there is no expression nothing is
--- said of the notes.
+-- said of the notes; whatever is not a note stays.
 pub record Scanning (p : Parsed) (s ts : List ℕ) (seen seen′ : List (List ℕ)) (r : ℕ) : Type 0 where
   pub answer : r ≡ scannedOf p
   pub placed : Placed (length s) p
   pub rises : (e : Expr) (n : ℕ) → p ≡ good e n → column seenRise seen′ ≡ noted rising e (column seenRise seen)
   pub falls : (e : Expr) (n : ℕ) → p ≡ good e n → column seenFall seen′ ≡ noted falling e (column seenFall seen)
+  pub others : NotesAlone seen seen′
   pub left : Seen ts seen′

@@ -1,8 +1,8 @@
 -- What a scan keeps of each stream, a row of an array by stream: its type, and the notes of the largest and of the smallest weight of the
 -- references to it (document 01, "What the check announces"). Assumes nothing.
-use Prim.Native.Nat.{ℕ, _≤_, _<_}
+use Prim.Native.Nat.{ℕ, _-_, _≤_, _<_}
 use mathlib.Core.Path.{_≡_}
-use mathlib.Core.List.{List, [], _∷_}
+use mathlib.Core.List.{List, [], _∷_, _++_, map}
 use lib.ListN.{length, getD, replicate}
 use Rattle.basis.specs.Rows.{entry, Shaped}
 use Rattle.limits.specs.Limits.{mostStreams}
@@ -36,10 +36,14 @@ pub record Seen (ts : List ℕ) (seen : List (List ℕ)) : Type 0 where
 abbrev pub Unnoted : List (List ℕ) → Type 0
 Unnoted seen = (v : ℕ) → v < mostStreams → (entry seen v seenRise ≡ 0) × (entry seen v seenFall ≡ 0)
 
+-- the row of a stream of the type t of which nothing is noted
+abbrev pub freshRow : ℕ → List ℕ
+freshRow t = t ∷ 0 ∷ 0 ∷ 0 ∷ []
+
 -- the rows before any stream was seen
 abbrev pub unseen : List (List ℕ)
-unseen = replicate mostStreams (noType ∷ 0 ∷ 0 ∷ 0 ∷ [])
+unseen = replicate mostStreams (freshRow noType)
 
--- rows of streams of the types ts, which are types, with nothing noted
-abbrev pub Sees : List ℕ → List (List ℕ) → Type 0
-Sees ts seen = ((v : ℕ) → v < length ts → getD ts v 0 < noType) → Seen ts seen × Unnoted seen
+-- the rows of streams of the types ts of which nothing is noted, and as many unseen ones as make up 32
+unfoldable pub fresh : List ℕ → List (List ℕ)
+fresh ts = map freshRow ts ++ replicate (mostStreams - length ts) (freshRow noType)

@@ -12,7 +12,7 @@ ghost use Rattle.limits.specs.Limits.{mostStreams, mostLevels};
 ghost use Rattle.node.specs.declared.Node.the-variants.{Constant, Now, At};
 ghost use Rattle.node.specs.Node.{isLeaf, standing};
 ghost use Rattle.expression.specs.Grammar.{parse};
-ghost use Rattle.expression.specs.Seen.{Seen, unseen, Sees};
+ghost use Rattle.expression.specs.Seen.{Seen, unseen, fresh};
 ghost use Rattle.expression.specs.Scanning.{places, otherFault, answered, Raised, Noting, CanNote, LeafScanned, CanScan, Scanning};
 use limits::STREAMS_MOST;
 use node::ENTRIES;
@@ -42,7 +42,7 @@ pub fn see(
     seen: &mut [[u16; SEEN_ENTRIES]; STREAMS_MOST],
 )
     requires { ⌜ (streams ≤ mostStreams) × (length (now types) ≡ mostStreams) × (now seen ≡ unseen) ⌝ }
-    ensures { λ _. ⌜ Sees (take streams (now (types .entry))) (now (seen .exit)) ⌝ }
+    ensures { λ _. ⌜ now (seen .exit) ≡ fresh (take streams (now (types .entry))) ⌝ }
 {
     let mut v = 0;
     while v < streams {

@@ -1,13 +1,12 @@
--- The head of the input and its rows' words (document 01, "The program").
+-- The head of the input (document 01, "The program").
 -- Assumes nothing.
-use Prim.Native.Nat.{ℕ, zero, suc, _+_, _*_}
+use Prim.Native.Nat.{ℕ, _+_, _*_}
 use mathlib.Core.Bool.{cond}
-use mathlib.Core.List.{List, [], _∷_, _++_}
+use mathlib.Core.List.{List}
 use lib.Dec.{eqb, ltb}
 use lib.ListN.{length, getD}
 use Rattle.limits.specs.Limits.{mostTable}
 use Rattle.limits.specs.Refusals.{tableLength, wrongKind}
-use Rattle.wire.specs.Bytes.{wordAt}
 use Rattle.feed.specs.declared.Head.{Head}
 use Rattle.feed.specs.declared.Head.the-variants.{Stopped, Refused, Table}
 
@@ -18,17 +17,12 @@ kindTable = 0x60
 abbrev pub headSize : ℕ
 headSize = 3
 
--- "table length out of its limits"
+-- "table length out of its limits": refusal 1, place 0
 unfoldable pub lengthOf : ℕ → Head
-lengthOf n = cond (eqb n 0) (Refused tableLength) (cond (ltb mostTable n) (Refused tableLength) (Table n))
+lengthOf n = cond (eqb n 0) (Refused tableLength 0) (cond (ltb mostTable n) (Refused tableLength 0) (Table n))
 
 -- "A first byte other than 60 gives `r 3 0`"
 unfoldable pub inputHead : List ℕ → Head
 inputHead s =
     cond (eqb (length s) 0) Stopped
-    (cond (eqb (getD s 0 0) kindTable) (cond (ltb (length s) headSize) Stopped (lengthOf (getD s 1 0 + 256 * getD s 2 0))) (Refused wrongKind))
-
--- n words from byte `from` on
-unfoldable pub wordsAt : (input : List ℕ) (from n : ℕ) → List ℕ
-wordsAt input from zero = []
-wordsAt input from (suc n) = wordsAt input from n ++ (wordAt input (from + 4 * n) ∷ [])
+    (cond (eqb (getD s 0 0) kindTable) (cond (ltb (length s) headSize) Stopped (lengthOf (getD s 1 0 + 256 * getD s 2 0))) (Refused wrongKind 0))

@@ -1,2 +1,5 @@
 pub mod Head
-pub mod Rows
+pub mod Printed
+pub mod Stands
+pub mod Program
+pub mod Listing

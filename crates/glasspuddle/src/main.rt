@@ -1,227 +1,235 @@
-// The program (document 01, "The program"). Here it reads and writes; `feed` and `lines` turn what it reads into what it writes.
-use feed::Head;
+// The program (document 01, "The program"): it reads a piece of input, lets `feed` make text of it, and writes the text. A failed read or
+// write stops it, with a message and no further line.
+use feed::State;
+use libc::STDERR_FILENO;
 use libc::STDIN_FILENO;
 use libc::STDOUT_FILENO;
-use monitor::Run;
 ghost use mathlib.Core.Path.{_≡_};
-ghost use Prim.Native.Nat.{_+_, _*_, _-_, _≤_, _<_};
+ghost use mathlib.Core.Bool.{true};
+ghost use mathlib.Core.List.{List};
+ghost use Prim.Native.Nat.{ℕ, _+_, _≤_, _<_, _^_};
 ghost use lib.ListN.{length};
-ghost use Rattle.limits.specs.Limits.{mostTable, mostStreams};
 ghost use Rattle.records.specs.Kinds.{mostText};
-ghost use Rattle.feed.specs.Head.{headSize};
+ghost use Rattle.feed.specs.Stands.{reading, Lent, Standing};
 
-// The rows that a piece of input had: the run after them, and the bytes that they took.
-struct Answered {
-    run: Run,
-    used: usize,
+// The bytes of one read.
+const PIECE_MOST: usize = 65536;
+
+// How far the program has come, or that a read or a write failed.
+struct Went {
+    fine: bool,
+    state: State,
 }
 
-// What a read led to: the run, the bytes of a part row that are left, and the bytes read.
-struct Piece {
-    run: Run,
-    have: usize,
-    got: usize,
+// Whether a call that failed may be made again: it was interrupted before it moved a byte, or nothing was ready.
+fn again() -> bool {
+    let error = os::errno();
+    error == libc::EINTR || error == libc::EAGAIN
 }
 
-fn say(text: &[u8], at: usize)
-    requires { ⌜ at ≤ length (now text) ⌝ }
-{
-    io::write_all(STDOUT_FILENO, &text[..at]);
+// Whether a call on this descriptor failed since nothing was ready. A file that can be sought in is always ready.
+fn not_ready(descriptor: i32) -> bool {
+    os::errno() == libc::EAGAIN && libc::lseek(descriptor, 0, libc::SEEK_CUR) < 0
 }
 
-fn say_stop(n: u64) {
-    let mut line = [0u8; 32];
-    let at = lines::put_stop_line(&mut line, 0, n);
-    say(&line, at);
+// One read that waits: standard input opened anew does not answer that nothing is ready.
+fn read_waiting(input: &mut [u8]) -> isize {
+    let opened = os::open_read(b"/dev/stdin");
+    let got = libc::read(opened, input);
+    libc::close(opened);
+    got
 }
 
-fn say_refusal(number: u8, place: usize) {
-    let mut line = [0u8; 32];
-    let at = lines::put_refusal_line(&mut line, 0, number, place);
-    say(&line, at);
+// One write that waits, to standard output or standard error.
+fn write_waiting(descriptor: i32, text: &[u8]) -> isize {
+    if descriptor == STDOUT_FILENO {
+        return write_to(os::open_append(b"/dev/stdout"), text);
+    }
+    write_to(os::open_append(b"/dev/stderr"), text)
 }
 
-fn say_end(rows: u32) {
-    let mut line = [0u8; 32];
-    let at = lines::put_end_line(&mut line, 0, rows);
-    say(&line, at);
+fn write_to(opened: i32, text: &[u8]) -> isize {
+    let got = libc::write(opened, text);
+    libc::close(opened);
+    got
 }
 
-// The first byte and, where it is 60, the two bytes of length. Behind a wrong byte nothing is waited for.
-fn read_head(head: &mut [u8]) -> usize
-    requires { ⌜ length (now head) ≡ headSize ⌝ }
-    ensures { λ r. ⌜ r ≤ headSize ⌝ }
-{
-    let first = io::read_full(STDIN_FILENO, &mut head[..1]);
-    if first == 0 {
+// One read, and one write, that wait where nothing is ready.
+fn read_once(input: &mut [u8]) -> isize {
+    let got = libc::read(STDIN_FILENO, input);
+    if got < 0 && not_ready(STDIN_FILENO) {
+        return read_waiting(input);
+    }
+    got
+}
+
+fn write_once(descriptor: i32, text: &[u8]) -> isize {
+    let got = libc::write(descriptor, text);
+    if got < 0 && not_ready(descriptor) {
+        return write_waiting(descriptor, text);
+    }
+    got
+}
+
+// Puts all of the text to a descriptor, or answers false.
+fn put(descriptor: i32, text: &[u8]) -> bool {
+    let mut done: usize = 0;
+    let mut tries: u64 = u64::MAX;
+    while done < text.len() && tries > 0 {
+        let rest = &text[done..];
+        let got = write_once(descriptor, rest);
+        if got <= 0 && !again() {
+            return false;
+        }
+        done += io::count(got, rest);
+        tries -= 1;
+    }
+    true
+}
+
+// Where a read says that the input is at its end: 0, or -1 where it was cut off. Of a terminal that hung up the system says so when it is
+// asked whether it is one.
+fn at_end() -> isize {
+    if libc::isatty(STDIN_FILENO) != 0 {
         return 0;
     }
-    if head[0] != feed::KIND_TABLE {
-        return 1;
+    if os::errno() != libc::EIO {
+        return 0;
     }
-    let more = io::read_full(STDIN_FILENO, &mut head[1..]);
-    1 + more
+    put(
+        STDERR_FILENO,
+        b"glasspuddle: reading failed: the input was cut off\n",
+    );
+    -1
 }
 
-// One read behind the bytes that are there: whoever feeds the program row by row is answered row by row.
-fn read_more(input: &mut [u8], have: usize) -> usize
-    requires { ⌜ have ≤ length (now input) ⌝ }
-    ensures { λ r. ⌜ have + r ≤ length (now (input .entry)) ⌝ }
+// One read: the number of bytes, 0 at the end of the input, or -1. A loop has to end: this one does after 2^64 tries.
+fn read_some(input: &mut [u8]) -> isize {
+    let mut tries: u64 = u64::MAX;
+    while tries > 0 {
+        let got = read_once(input);
+        if got > 0 {
+            return got;
+        }
+        if got == 0 {
+            return at_end();
+        }
+        if !again() {
+            put(STDERR_FILENO, b"glasspuddle: reading failed\n");
+            return -1;
+        }
+        tries -= 1;
+    }
+    -1
+}
+
+// Writes the text, or says that it could not.
+fn write_text(text: &[u8], at: usize) -> bool
+    requires { ⌜ at ≤ length (now text) ⌝ }
 {
-    let part = &mut input[have..];
-    let got = libc::read(STDIN_FILENO, part);
-    io::count(got, part)
+    if put(STDOUT_FILENO, &text[..at]) {
+        return true;
+    }
+    put(STDERR_FILENO, b"glasspuddle: writing failed\n");
+    false
 }
 
-// Answers every whole row of the input up to `end`, and writes the text as often as it is full and at the end.
-fn answer_all(
-    run: Run,
-    table: &[u8],
+// The lines of one piece of input.
+fn take_piece(
+    state: State,
+    table: &mut [u8],
     store: &mut [u32],
-    inputs: usize,
-    input: &[u8],
-    end: usize,
+    part: &mut [u8],
+    piece: &[u8],
     text: &mut [u8],
-) -> Answered
-    requires { ⌜ (1 ≤ inputs) × (inputs < mostStreams) × (end ≤ length (now input)) × (mostText ≤ length (now text)) ⌝ }
-    ensures { λ r. ⌜ (r .used ≤ end) × (end - r .used < 4 * inputs) ⌝ }
+) -> Went
+    requires { ⌜ Standing state (now table) (now store) (now part) × (state .read + length (now piece) < 2 ^ 64) × (mostText ≤ length (now text)) ⌝ }
+    ensures { λ r. ⌜ Standing (r .state) (now (table .exit)) (now (store .exit)) (now (part .exit)) ⌝ }
+    ensures { λ r. ⌜ (reading (state .stage) ≡ true → 0 < length (now (piece .entry)) → state .read < r .state .read) ⌝ }
 {
-    let mut latest = run;
+    let mut latest = state;
     let mut used: usize = 0;
-    while 4 * inputs <= end - used {
-        let fed = feed::answer_rows(latest, table, store, &input[used..end], inputs, text);
-        say(text, fed.at);
-        let next = fed.run;
+    while used < piece.len() && feed::reads_on(latest) {
+        let advance = feed::step(latest, table, store, part, &piece[used..], text);
+        let next = advance.state;
         latest = next;
-        used += fed.used;
+        if !write_text(text, advance.at) {
+            return Went {
+                fine: false,
+                state: latest,
+            };
+        }
+        used += advance.used;
     }
-    Answered {
-        run: latest,
-        used: used,
+    Went {
+        fine: true,
+        state: latest,
     }
 }
 
-// Moves the bytes from `used` up to `end` to the front.
-fn keep_rest(input: &mut [u8], used: usize, end: usize) -> usize
-    requires { ⌜ (used ≤ end) × (end ≤ length (now input)) ⌝ }
-    ensures { λ r. ⌜ r ≡ end - used ⌝ }
-{
-    let left = end - used;
-    let mut i: usize = 0;
-    while i < left {
-        input[i] = input[used + i];
-        i += 1;
-    }
-    left
-}
-
-// One read, and the lines of all rows that are whole with it.
-fn take_some(
-    run: Run,
-    table: &[u8],
+// The lines of the input, read piece by piece: whoever feeds the program row by row is answered row by row. Nothing says that the input
+// ends, and a loop has to: this one stops below 2^64 bytes.
+fn take_input(
+    table: &mut [u8],
     store: &mut [u32],
-    inputs: usize,
+    part: &mut [u8],
     input: &mut [u8],
-    have: usize,
     text: &mut [u8],
-) -> Piece
-    requires { ⌜ (1 ≤ inputs) × (inputs < mostStreams) × (have ≤ length (now input)) × (length (now input) ≡ 65536) × (mostText ≤ length (now text)) ⌝ }
-    ensures { λ r. ⌜ (r .have < 4 * inputs) × (r .got ≤ 65536) ⌝ }
+) -> Went
+    requires { ⌜ Lent (now table) (now store) (now part) × (length (now input) ≡ 65536) × (mostText ≤ length (now text)) ⌝ }
+    ensures { λ r. ⌜ Standing (r .state) (now (table .exit)) (now (store .exit)) (now (part .exit)) ⌝ }
 {
-    let got = read_more(input, have);
-    let end = have + got;
-    let answered = answer_all(run, table, store, inputs, input, end, text);
-    let left = keep_rest(input, answered.used, end);
-    let next = answered.run;
-    Piece {
-        run: next,
-        have: left,
-        got: got,
+    let mut latest = feed::begin();
+    while feed::reads_on(latest) && latest.read <= usize::MAX - PIECE_MOST {
+        let got = read_some(input);
+        let n = io::count(got, input);
+        if n == 0 {
+            return Went {
+                fine: got == 0,
+                state: latest,
+            };
+        }
+        let went = take_piece(latest, table, store, part, &input[..n], text);
+        let next = went.state;
+        latest = next;
+        if !went.fine {
+            return Went {
+                fine: false,
+                state: latest,
+            };
+        }
+    }
+    Went {
+        fine: true,
+        state: latest,
     }
 }
 
-// The closing turns and the last line. Each piece has a turn at least, and a run has fewer than 65,536: the count only ends the loop.
-fn finish(run: Run, table: &[u8], store: &mut [u32], text: &mut [u8])
-    requires { ⌜ mostText ≤ length (now text) ⌝ }
+// The lines behind the end of the input.
+fn give_rest(state: State, table: &[u8], store: &mut [u32], text: &mut [u8])
+    requires { ⌜ ((part : List ℕ) × Standing state (now table) (now store) part) × (mostText ≤ length (now text)) ⌝ }
 {
-    let closed = run.close(table);
-    let first = closed.run;
+    let ended = feed::end(state, table, text);
+    let first = ended.ending;
     let mut latest = first;
-    let mut pieces: u32 = 65536;
-    while pieces > 0 && feed::is_draining(latest) {
-        let drained = feed::drain_turns(latest, table, store, text);
-        say(text, drained.at);
-        let next = drained.run;
+    let mut fine = write_text(text, ended.at);
+    while fine && !latest.over {
+        let more = feed::finish(latest, table, store, text);
+        let next = more.ending;
         latest = next;
-        pieces -= 1;
+        fine = write_text(text, more.at);
     }
-    say_end(latest.rows);
-}
-
-// Rows until the input ends. A proved loop has to end, and nothing says that the input does: so it stops below 2^64 bytes.
-fn take_rows(
-    run: Run,
-    table: &[u8],
-    store: &mut [u32],
-    inputs: usize,
-    input: &mut [u8],
-    text: &mut [u8],
-)
-    requires { ⌜ (1 ≤ inputs) × (inputs < mostStreams) × (length (now table) ≤ mostTable) × (length (now input) ≡ 65536) × (mostText ≤ length (now text)) ⌝ }
-{
-    let mut latest = run;
-    let mut have: usize = 0;
-    let mut got: usize = 1;
-    let mut read: usize = feed::HEAD_BYTES + table.len();
-    while got > 0 && read <= usize::MAX - 65536 {
-        let piece = take_some(latest, table, store, inputs, input, have, text);
-        let next = piece.run;
-        latest = next;
-        have = piece.have;
-        got = piece.got;
-        read += piece.got;
-    }
-    if have > 0 {
-        say_stop(read as u64);
-    }
-    finish(latest, table, store, text);
-}
-
-fn run_table(table: &[u8])
-    requires { ⌜ length (now table) ≤ mostTable ⌝ }
-{
-    let mut store = [0u32; limits::STORE_MOST];
-    let opened = monitor::open(table, &mut store);
-    if opened.number != limits::ACCEPTED {
-        say_refusal(opened.number, opened.place);
-        return;
-    }
-    let inputs = feed::inputs_of(table);
-    let run = opened.run;
-    let mut input = io::large_buffer();
-    let mut text = io::large_buffer();
-    take_rows(run, table, &mut store, inputs, &mut input, &mut text);
-}
-
-fn read_table(length: usize)
-    requires { ⌜ length ≤ mostTable ⌝ }
-{
-    let mut table = io::buffer();
-    let got = io::read_full(STDIN_FILENO, &mut table[..length]);
-    if got < length {
-        say_stop((feed::HEAD_BYTES + got) as u64);
-        return;
-    }
-    run_table(&table[..length]);
 }
 
 fn main() {
-    let mut head = [0u8; feed::HEAD_BYTES];
-    let got = read_head(&mut head);
-    let found = feed::head_of(&head[..got]);
-    match found {
-        Head::Stopped => say_stop(got as u64),
-        Head::Refused(number) => say_refusal(number, 0),
-        Head::Table(length) => read_table(length),
+    let mut table = [0u8; limits::TABLE_MOST];
+    let mut store = [0u32; limits::STORE_MOST];
+    let mut part = [0u8; feed::PART_MOST];
+    let mut input = io::large_buffer();
+    let mut text = io::large_buffer();
+    let went = take_input(&mut table, &mut store, &mut part, &mut input, &mut text);
+    let state = went.state;
+    if went.fine {
+        give_rest(state, &table, &mut store, &mut text);
     }
 }

@@ -3,13 +3,13 @@
 -- Assumes nothing.
 use Prim.Native.Nat.{ℕ, _≤_, _<_}
 use mathlib.Core.Path.{_≡_}
-use mathlib.Core.Bool.{Bool, true, false}
-use mathlib.Core.List.{List}
-use lib.ListN.{getD}
+use mathlib.Core.Bool.{Bool, false}
+use mathlib.Core.List.{List, []}
+use lib.ListN.{length, getD}
 use native.Mathlib.Omega.{arith}
 use lib.IntN.{ℤ}
 use Rattle.basis.specs.Edges.{among}
-use Rattle.walks.specs.Walks.{Right}
+use Rattle.walks.specs.Walks.{LoopsBelow, Right}
 use Rattle.walks.specs.Schedule as walks
 use Rattle.value.specs.declared.Value.the-variants.{Flag}
 use Rattle.walks.proofs.Schedule.{schedule}
@@ -19,12 +19,14 @@ use Rattle.table.specs.Sound.{Sound}
 use Rattle.limits.specs.Limits.{mostLevels}
 use Rattle.lola.specs.Schedule.{Schedule}
 use Rattle.run.specs.Keeps.{Keeps}
-use Rattle.lola.specs.Graph.{Depends}
+use Rattle.lola.specs.Graph.{Depends, FutureBounded}
+use Rattle.lola.specs.Models.{trace}
 use Rattle.run.specs.Run.{Typed, Announced}
 use Rattle.run.specs.Layout.{Lays}
 use Rattle.store.specs.Store.{layoutOf}
 use Rattle.store.proofs.Layouts.{laid}
-use Rattle.lola.proofs.Acceptance.{schedule-of-edges, loops-into, look-into}
+use Rattle.lola.proofs.Graph.{ahead-distance}
+use Rattle.lola.proofs.Acceptance.{schedule-of-edges, look-into}
 use Rattle.run.proofs.Keeps.{keeps-of-edges}
 use Rattle.lola.proofs.Existence.{well-defined}
 use Rattle.run.proofs.Types.{model-fits}
@@ -33,13 +35,12 @@ use Rattle.meaning.specs.Tables.{specOf, readIn, Meant}
 use Rattle.meaning.specs.Plans.{tablePlan, FitsIn}
 use Rattle.meaning.proofs.Types.{reading-of-type}
 use Rattle.meaning.proofs.Typing.{expression-yields, default-of-type}
-use Rattle.meaning.proofs.Graph.{depends-edge, edge-depends}
+use Rattle.meaning.proofs.Graph.{depends-edge, edge-depends, loops-bounded, bounded-loops}
 
 module _ (s : List ℕ) (t : Table) (fine : Sound s t) (look kept : ℕ → ℕ) where
-  -- the table's types hold of every plan of it
-  pub plan-typed : (closing room : ℕ) (wellFormed : List ℕ → Bool) → Typed (tablePlan t look kept closing room wellFormed) (FitsIn (t .types))
-  plan-typed closing room wellFormed = record {
-    read = λ v b l. reading-of-type (getD (t .types) v 0) b;
+  -- the table's types hold
+  table-typed : Typed (specOf t) (FitsIn (t .types))
+  table-typed = record {
     defaults = λ y v k d e. default-of-type (t .types) v k d (equationOf t y .expr) (e .occurs);
     equations = λ y o l f g. expression-yields (t .types) s mostLevels (getD (t .types) y 0) (equationOf t y .start) (fine .stands y o l .parsed) f g;
   }
@@ -67,15 +68,15 @@ module _ (s : List ℕ) (t : Table) (fine : Sound s t) (look kept : ℕ → ℕ)
         (closing room : ℕ) (wellFormed : List ℕ → Bool) → ((v : ℕ) → v < streams t → look v ≤ closing) →
         Announced (tablePlan t look kept closing room wellFormed) (order .rank) (FitsIn (t .types))
     table-announced closing room wellFormed longest =
-        record { schedule = table-schedule; keeps = table-keeps; longest = longest; typed = plan-typed closing room wellFormed; laid = table-laid }
+        record { schedule = table-schedule; keeps = table-keeps; longest = longest; reads = λ v b l. reading-of-type (getD (t .types) v 0) b; typed = table-typed; laid = table-laid }
 
     pub table-meant : Meant t look
     table-meant = record {
       defined = well-defined (specOf t) look (order .rank) table-schedule (Flag false);
-      bounded = loops-into into (right .below);
-      distance = λ v l. look-into into (edge-depends t (fine .outputs)) (right .ahead v l);
+      bounded = loops-bounded t (fine .outputs) (right .below);
+      distance = λ v l. ahead-distance (specOf t) (look-into into (edge-depends t (fine .outputs)) (right .ahead v l));
       demand2 = demand2 (specOf t) look (order .rank) table-schedule (Flag false) (readIn t) 0;
-      typed = λ rows σ m. model-fits (tablePlan t look kept 0 0 (λ ws. true)) (order .rank) (FitsIn (t .types)) table-schedule (plan-typed 0 0 (λ ws. true)) rows σ m;
+      typed = λ rows σ m. model-fits (specOf t) look (order .rank) (FitsIn (t .types)) table-schedule table-typed (length rows) (trace (readIn t) 0 rows) σ m (λ v j l h. reading-of-type (getD (t .types) v 0) (getD (getD rows j []) v 0));
     }
 
   -- an order within the turn is there
@@ -90,3 +91,8 @@ module _ (s : List ℕ) (t : Table) (fine : Sound s t) (look kept : ℕ → ℕ)
 pub accepted-means :
     (s : List ℕ) (t : Table) → decode s ≡ decoded t → (look kept : ℕ → ℕ) → Right (among (edges t)) (streams t) look kept → Meant t look
 accepted-means s t e look kept right = accepted-meant s t (sound s e) look kept right
+
+-- Document 01's "every loop's total below 0", of a table that decodes, is source 004's definition 14 of its specification.
+pub loops-exactly :
+    (s : List ℕ) (t : Table) → decode s ≡ decoded t → (LoopsBelow (among (edges t)) → FutureBounded (specOf t)) × (FutureBounded (specOf t) → LoopsBelow (among (edges t)))
+loops-exactly s t e = let o = sound s e .outputs in (loops-bounded t o, bounded-loops t o)

@@ -1,5 +1,5 @@
--- The edges of a table are the edges of its specification's dependency graph (document 01, "What the check announces"; source 004,
--- definition 8).
+-- The edges of a table are the edges of its specification's dependency graph, and its loops are below 0 where that is future bounded
+-- (document 01, "What the check announces"; source 004, definitions 8 and 14).
 -- Assumes nothing.
 use Prim.Native.Nat.{ℕ, _+_, _-_, _≤_, _<_}
 use mathlib.Core.Path.{_≡_, refl, sym}
@@ -16,7 +16,10 @@ use Rattle.table.proofs.Edges.{reference-edge, edge-output, edge-reference}
 use Rattle.table.specs.Table.{Table, streams, equationOf, edges}
 use Rattle.expression.specs.References.{references, nodeReferences}
 use Rattle.lola.specs.Expressions.{Ref, target, offset}
-use Rattle.lola.specs.Graph.{Depends, edge, Occurs, in1, in2a, in2b, in3a, in3b, in3c}
+use Rattle.walks.specs.Walks.{LoopsBelow}
+use Rattle.lola.proofs.Graph.{bounded-below, below-bounded}
+use Rattle.lola.proofs.Acceptance.{loops-into}
+use Rattle.lola.specs.Graph.{Depends, edge, FutureBounded, Occurs, in1, in2a, in2b, in3a, in3b, in3c}
 use Rattle.lola.specs.Graph as graph
 use Rattle.meaning.specs.Tables.{specOf}
 use Rattle.meaning.specs.Expressions.{meaning}
@@ -74,3 +77,10 @@ module _ (t : Table) (outputs : t .inputs + length (t .equations) ≡ streams t)
     where
       from-refers : t .inputs ≤ y → y < streams t → Refers (t .types) y y v k (equationOf t y .expr) → Depends (specOf t) y v k
       from-refers o n (refers p q r j) = edge (record { output = o; stream = n; occurs = j }) q r
+
+  -- so "every loop's total below 0" is source 004's definition 14
+  pub loops-bounded : LoopsBelow (among (edges t)) → FutureBounded (specOf t)
+  loops-bounded h = below-bounded (specOf t) (loops-into depends-edge h)
+
+  pub bounded-loops : FutureBounded (specOf t) → LoopsBelow (among (edges t))
+  bounded-loops b = loops-into edge-depends (bounded-below (specOf t) b)

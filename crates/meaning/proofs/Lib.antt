@@ -3,3 +3,4 @@ pub mod Operators
 pub mod Typing
 pub mod Graph
 pub mod Accepted
+pub mod Words

@@ -3,10 +3,9 @@
 -- Assumes nothing.
 use Prim.Native.Nat.{ℕ, zero, suc, _+_}
 use mathlib.Core.Path.{_≡_, refl, subst}
-use mathlib.Core.Bool.{Bool, true, false, cond}
+use mathlib.Core.Bool.{Bool, true, false}
 use mathlib.Core.List.{List}
 use lib.ListN.{length, getD}
-use native.Mathlib.Omega.{arith}
 use borrow.Author.Tests.{eqb-true, eqb-false}
 use lib.Dec.{leb, ltb, eqb}
 use lib.IntN.{ℤ}
@@ -15,6 +14,7 @@ use Rattle.value.specs.declared.Value.{Value}
 use Rattle.value.specs.Values.{opOf, typeOfOp}
 use Rattle.node.specs.Kinds.{ruleOf, meant}
 use Rattle.node.specs.Node.{nodeOf, nodeBy, nodeAt, faultOf, typeFault, wordFault, zeroFault, first, faultAt, headOf, headBy, headAt, NodeRead}
+use Rattle.node.proofs.Faults.{neither, same-type, below-of}
 use Rattle.node.proofs.Heads.{faultless}
 use Rattle.node.specs.declared.Node.{Node}
 use Rattle.node.specs.declared.Node.the-variants.{Constant, Now, At, Operator}
@@ -30,37 +30,16 @@ use Rattle.meaning.specs.Expressions.{ops, meaning, OfType}
 use Rattle.meaning.proofs.Types.{reading-of-type, apply-of-type, choose-of-type}
 use Rattle.meaning.proofs.Operators.{OpKind, own-type, rest-type, operator-node}
 
--- what a node without a fault satisfies
-first-none : (a b : ℕ) → first a b ≡ 0 → (a ≡ 0) × (b ≡ 0)
-unfolding first
-first-none a b e = go (eqb a 0) refl e
-  where
-    go : (c : Bool) → eqb a 0 ≡ c → cond c b a ≡ 0 → (a ≡ 0) × (b ≡ 0)
-    go true p q = (eqb-true a 0 p, q)
-    go false p q = absurd (eqb-false a 0 p q)
-
-same-type : (t w : ℕ) → typeFault t w ≡ 0 → t ≡ w
-unfolding typeFault
-same-type t w e = go (eqb t w) refl e
-  where
-    go : (c : Bool) → eqb t w ≡ c → _≡_ {A = ℕ} (cond c 0 5) 0 → t ≡ w
-    go true p q = eqb-true t w p
-    go false p q = absurd (omega arith)
-
-named-fault : (b : Bool) (x : ℕ) → cond b x 4 ≡ 0 → x ≡ 0
-named-fault true x e = e
-named-fault false x e = absurd (omega arith)
-
 -- what holds of the expression that is read, if one is
-abbrev Reads : (Expr → Type 0) → Parsed → Type 0
+abbrev pub Reads : (Expr → Type 0) → Parsed → Type 0
 Reads P (good e n) = P e
 Reads P (bad why place) = Unit {0}
 
-reads-then : (Q P : Expr → Type 0) (x : Parsed) (f : Expr → ℕ → Parsed) → Reads Q x → ((a : Expr) (m : ℕ) → Q a → Reads P (f a m)) → Reads P (andThen x f)
+pub reads-then : (Q P : Expr → Type 0) (x : Parsed) (f : Expr → ℕ → Parsed) → Reads Q x → ((a : Expr) (m : ℕ) → Q a → Reads P (f a m)) → Reads P (andThen x f)
 reads-then Q P (good a m) f h g = g a m h
 reads-then Q P (bad why place) f h g = tt
 
-reads-else : (P : Expr → Type 0) (b : Bool) (x : Parsed) (f : Unit {0} → Parsed) → (b ≡ true → Reads P x) → (b ≡ false → Reads P (f tt)) → Reads P (orElse b x f)
+pub reads-else : (P : Expr → Type 0) (b : Bool) (x : Parsed) (f : Unit {0} → Parsed) → (b ≡ true → Reads P x) → (b ≡ false → Reads P (f tt)) → Reads P (orElse b x f)
 reads-else P true x f p q = p refl
 reads-else P false x f p q = q refl
 
@@ -101,12 +80,12 @@ module _ (types : List ℕ) where
 
   node-yields : (s : List ℕ) (w k place m : ℕ) → (ruleOf k .form ≡ 0 → ⊥) → (node : Node) → nodeOf s k place ≡ node → faultOf types w node ≡ 0 → HeadYields w (headOf node m)
   unfolding headOf faultOf
-  node-yields s w k place m f (Constant t x) e h = yields-constant w t x (same-type _ _ (first-none (wordFault t x) (typeFault t w) h .1))
-  node-yields s w k place m f (Now v) e h = yields-now w v (same-type _ _ (named-fault (ltb v (length types)) (typeFault (getD types v 0) w) h))
+  node-yields s w k place m f (Constant t x) e h = yields-constant w t x (same-type _ _ (neither (wordFault t x) (typeFault t w) h .1))
+  node-yields s w k place m f (Now v) e h = yields-now w v (same-type _ _ (below-of v (length types) (typeFault (getD types v 0) w) h .1))
   node-yields s w k place m f (At v o d) e h =
       let q = typeFault (getD types v 0) w in
       let p = wordFault (getD types v 0) d in
-      yields-at w v d o (same-type _ _ (first-none p q (first-none (zeroFault o) (first p q) (named-fault (ltb v (length types)) (first (zeroFault o) (first p q)) h) .1) .1))
+      yields-at w v d o (same-type _ _ (neither p q (neither (zeroFault o) (first p q) (below-of v (length types) (first (zeroFault o) (first p q)) h .1) .1) .1))
   node-yields s w k place m f (Operator k1) e h = (operator-node s k place k1 f e, same-type _ _ h)
 
   head-yields : (l : ℕ) (s : List ℕ) (w place : ℕ) → HeadYields w (headAt l types s w place)

@@ -17,7 +17,7 @@ use Rattle.lola.specs.Expressions.{Ops, constant, reference, apply1, apply2, ap
 abbrev pub ops : Ops Value ℕ
 ops = record { op1 = λ k a. applyOf k a a; op2 = applyOf; op3 = λ k a b c. chooseOf a b c }
 
--- over streams of the types ts: a constant and a default are read at their type. An operator is no leaf of a parsed expression.
+-- over streams of the types ts: a constant and a default are read at their type. No operator is a leaf of a `WellFormed` one.
 unfoldable pub meaning : List ℕ → Expr → lola.Expr Value ℕ
 meaning ts (leaf (Constant t x)) = constant (readingOf t x)
 meaning ts (leaf (Now v)) = reference (now v)

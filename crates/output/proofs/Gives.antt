@@ -15,7 +15,7 @@ use Rattle.basis.specs.Given.{Given}
 use Rattle.run.specs.Run.{gather}
 use Rattle.store.specs.Store.{wordOf, placeIn, Framed, Findable}
 use Rattle.store.proofs.Places.{findable, is-word}
-use Rattle.output.specs.Encoding.{Emitted, roomFrom, wordOn, bytesOf, outputOf, CanGive, CanEmit}
+use Rattle.output.specs.Encoding.{Emitted, roomFrom, wordOn, recordsOn, outputOf, CanGive, CanEmit}
 use Rattle.records.specs.Kinds.{valueSize, triggerSize}
 use Rattle.records.specs.Encoding.{valueRecord, triggerRecord, recordOf, encode}
 use Rattle.records.proofs.Sizes.{value-record-length, trigger-record-length}
@@ -49,38 +49,38 @@ module _ (roles look kept st : List ℕ) (n t y : ℕ) where
   word-found f l some e h k g = is-word f l (record { inside = k; come = omega (arith, e); stays = omega (arith, e, some) }) st g
 
   module _ {a : ℕ} (e : a ≡ getD look y 0) where
-    pub early-gives-none : t < a → bytesOf roles look kept st n t y ≡ []
-    unfolding bytesOf
+    pub early-gives-none : t < a → recordsOn roles look kept st n t y ≡ []
+    unfolding recordsOn
     early-gives-none h = let g : t < getD look y 0 = omega arith in rw (lt-leb _ _ g)
 
-    pub late-gives-none : a ≤ t → n ≤ t - a → bytesOf roles look kept st n t y ≡ []
-    unfolding bytesOf
+    pub late-gives-none : a ≤ t → n ≤ t - a → recordsOn roles look kept st n t y ≡ []
+    unfolding recordsOn
     late-gives-none h k = let g : getD look y 0 ≤ t = omega arith in let f : n + getD look y 0 ≤ t = omega arith in rw (le-leb _ _ g, le-ltb _ _ f)
 
     module _ (h : a ≤ t) (k : t - a < n) {w : ℕ} (ew : w ≡ wordOf kept st y (t - a)) where
-      given : bytesOf roles look kept st n t y ≡ valueRecord y (t - a) w ++ cond (eqb (getD roles y 0) 1 && not (eqb w 0)) (triggerRecord y (t - a)) []
-      unfolding bytesOf recordOf
+      given : recordsOn roles look kept st n t y ≡ valueRecord y (t - a) w ++ cond (eqb (getD roles y 0) 1 && not (eqb w 0)) (triggerRecord y (t - a)) []
+      unfolding recordsOn recordOf
       given =
           let g : getD look y 0 ≤ t = omega arith in
           let f : t < n + getD look y 0 = omega arith in
           rw (le-leb _ _ g, lt-ltb _ _ f, word-of-turn e ew, e)
 
       module _ {l l1 : List ℕ} {p q : ℕ} (u : Wrote l p (valueRecord y (t - a) w) l1 q) where
-        pub value-and-trigger : {l2 : List ℕ} {r : ℕ} → getD roles y 0 ≡ 1 → (w ≡ 0 → ⊥) → Wrote l1 q (triggerRecord y (t - a)) l2 r → Wrote l p (bytesOf roles look kept st n t y) l2 r
+        pub value-and-trigger : {l2 : List ℕ} {r : ℕ} → getD roles y 0 ≡ 1 → (w ≡ 0 → ⊥) → Wrote l1 q (triggerRecord y (t - a)) l2 r → Wrote l p (recordsOn roles look kept st n t y) l2 r
         value-and-trigger er z v = wrote-as (given ∙ rw (eq-eqb _ _ er, ne-eqb _ _ z)) (then u v)
 
-        value-alone : eqb (getD roles y 0) 1 && not (eqb w 0) ≡ false → Wrote l p (bytesOf roles look kept st n t y) l1 q
+        value-alone : eqb (getD roles y 0) 1 && not (eqb w 0) ≡ false → Wrote l p (recordsOn roles look kept st n t y) l1 q
         value-alone b = wrote-as (given ∙ rw b (append-nil (valueRecord y (t - a) w))) u
 
-        pub not-a-trigger : (getD roles y 0 ≡ 1 → ⊥) → Wrote l p (bytesOf roles look kept st n t y) l1 q
+        pub not-a-trigger : (getD roles y 0 ≡ 1 → ⊥) → Wrote l p (recordsOn roles look kept st n t y) l1 q
         not-a-trigger er = value-alone (rw (ne-eqb _ _ er))
 
-        pub false-trigger : getD roles y 0 ≡ 1 → w ≡ 0 → Wrote l p (bytesOf roles look kept st n t y) l1 q
+        pub false-trigger : getD roles y 0 ≡ 1 → w ≡ 0 → Wrote l p (recordsOn roles look kept st n t y) l1 q
         false-trigger er z = value-alone (rw (eq-eqb _ _ er, eq-eqb _ _ z))
 
   -- the bytes fit their room
-  bytes-fit-room : length (bytesOf roles look kept st n t y) ≤ roomFrom roles 1 y
-  unfolding bytesOf recordOf roomFrom
+  bytes-fit-room : length (recordsOn roles look kept st n t y) ≤ roomFrom roles 1 y
+  unfolding recordsOn recordOf roomFrom
   bytes-fit-room = go (due (of look) n t y) (eqb (getD roles y 0) 1) (not (eqb (wordOn look kept st t y) 0))
     where
       go : (d b c : Bool) → length (cond d (valueRecord y (t - getD look y 0) (wordOn look kept st t y) ++ cond (b && c) (triggerRecord y (t - getD look y 0)) []) []) ≤ valueSize + cond b triggerSize 0 + 0
@@ -90,8 +90,8 @@ module _ (roles look kept st : List ℕ) (n t y : ℕ) where
       go true false c = let e = length-append (valueRecord y (t - getD look y 0) (wordOn look kept st t y)) [] in omega (arith, value-record-length y (t - getD look y 0) (wordOn look kept st t y))
 
 module _ (roles look kept st : List ℕ) (n t : ℕ) where
-  output-more : (k y : ℕ) → outputOf roles look kept st n t (suc k) y ≡ bytesOf roles look kept st n t y ++ outputOf roles look kept st n t k (suc y)
-  unfolding outputOf gather bytesOf encode
+  output-more : (k y : ℕ) → outputOf roles look kept st n t (suc k) y ≡ recordsOn roles look kept st n t y ++ outputOf roles look kept st n t k (suc y)
+  unfolding outputOf gather recordsOn encode
   output-more k y = go (due (of look) n t y)
     where
       r : List (Given ℕ)
@@ -125,11 +125,11 @@ module _ (roles look kept st : List ℕ) (n t : ℕ) where
     pub room-here : count + roomFrom roles 1 y ≤ length out
     room-here = let a = x .space in let b : count + roomFrom roles (suc (streams - suc y)) y ≤ length out = rw one-more at a in omega (arith, room-more roles (streams - suc y) y)
 
-    pub given-more : {out' : List ℕ} {next : ℕ} → Wrote out count (bytesOf roles look kept st n t y) out' next → GivenBelow streams whole out₀ (y + 1) out' next
+    pub given-more : {out' : List ℕ} {next : ℕ} → Wrote out count (recordsOn roles look kept st n t y) out' next → GivenBelow streams whole out₀ (y + 1) out' next
     given-more {out'} {next} u = rw add-one (record {
-      done = x .done ++ bytesOf roles look kept st n t y;
+      done = x .done ++ recordsOn roles look kept st n t y;
       wrote = then (x .wrote) u;
-      whole-is = append-assoc (x .done) (bytesOf roles look kept st n t y) (outputOf roles look kept st n t (streams - suc y) (suc y))
+      whole-is = append-assoc (x .done) (recordsOn roles look kept st n t y) (outputOf roles look kept st n t (streams - suc y) (suc y))
           ∙ ap (λ (l : List ℕ). x .done ++ l) (sym (output-more (streams - suc y) y))
           ∙ ap (λ (k : ℕ). x .done ++ outputOf roles look kept st n t k y) (sym one-more) ∙ x .whole-is;
       space =

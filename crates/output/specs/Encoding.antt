@@ -28,8 +28,8 @@ abbrev pub wordOn : (look kept st : List ℕ) (t y : ℕ) → ℕ
 wordOn look kept st t y = wordOf kept st y (t - getD look y 0)
 
 -- what stream y gives on turn t, where n rows are known
-unfoldable pub bytesOf : (roles look kept st : List ℕ) (n t y : ℕ) → List ℕ
-bytesOf roles look kept st n t y =
+unfoldable pub recordsOn : (roles look kept st : List ℕ) (n t y : ℕ) → List ℕ
+recordsOn roles look kept st n t y =
     cond (due (of look) n t y) (recordOf roles (record { stream = y; position = t - getD look y 0; word = wordOn look kept st t y })) []
 
 -- what k streams from y on give, in stream order
@@ -46,7 +46,7 @@ pub record CanGive (roles look : List ℕ) (frame : List (List ℕ)) (words room
 -- what y gives, by the numbers that the frame was laid from
 abbrev pub Gives : (roles look : List ℕ) (frame : List (List ℕ)) (st : List ℕ) (n t y : ℕ) → (List ℕ → Type 0) → Type 0
 Gives roles look frame st n t y P =
-    (types kept : List ℕ) (streams : ℕ) → Framed types look kept streams n t frame → y < streams → 0 < of kept y → P (bytesOf roles look kept st n t y)
+    (types kept : List ℕ) (streams : ℕ) → Framed types look kept streams n t frame → y < streams → 0 < of kept y → P (recordsOn roles look kept st n t y)
 
 -- all outputs' bytes fit, and the store is as long as announced
 pub record CanEmit (roles look : List ℕ) (frame : List (List ℕ)) (words room n t inputs streams : ℕ) : Type 0 where

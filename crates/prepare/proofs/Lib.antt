@@ -3,3 +3,5 @@ pub mod Rooms
 pub mod Held
 pub mod Vouched
 pub mod Accepted
+pub mod Rows
+pub mod Determined

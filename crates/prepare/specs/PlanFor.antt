@@ -1,6 +1,7 @@
 -- What a call goes by: the table that the bytes decode to, with the numbers that the check announces of it (document 01, "What the
 -- check announces"). Assumes nothing.
-use Prim.Native.Nat.{ℕ, zero, suc}
+use Prim.Native.Nat.{ℕ, zero, suc, _≤_, _<_}
+use mathlib.Core.Path.{_≡_}
 use mathlib.Core.Bool.{Bool, cond, not, _&&_}
 use mathlib.Core.List.{List, []}
 use lib.Dec.{eqb, ltb}
@@ -19,6 +20,11 @@ tableIn (refused n p) = record { edition = 0; inputs = 0; types = []; roles = []
 abbrev pub tableFor : List ℕ → Table
 tableFor s = tableIn (decode s)
 
+-- a well-formed row: of I words, each input flag word at most 1 (refusals 14 and 15; "types are 0 flag, 1 word, 2 level")
+pub record WellFormedRow (t : Table) (ws : List ℕ) : Type 0 where
+  pub words : length ws ≡ t .inputs
+  pub flags : (x : ℕ) → x < t .inputs → getD (t .types) x 0 ≡ 0 → getD ws x 0 ≤ 1
+
 -- refusal 15: is the word of stream x an "input flag word above 1"
 abbrev pub badFlag : (types ws : List ℕ) → ℕ → Bool
 badFlag types ws x = eqb (getD types x 0) 0 && ltb 1 (getD ws x 0)
@@ -28,7 +34,7 @@ unfoldable pub firstBad : (types ws : List ℕ) (k x : ℕ) → ℕ
 firstBad types ws zero x = x
 firstBad types ws (suc k) x = cond (badFlag types ws x) x (firstBad types ws k (suc x))
 
--- a row that neither refusal 14 ("row hasn't I words") nor 15 meets
+-- the same by the tests: a row that neither refusal 14 ("row hasn't I words") nor 15 meets
 abbrev pub rowFits : Table → List ℕ → Bool
 rowFits t ws = eqb (length ws) (t .inputs) && not (ltb (firstBad (t .types) ws (t .inputs) 0) (t .inputs))
 

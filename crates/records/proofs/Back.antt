@@ -3,28 +3,16 @@
 use mathlib.Core.Path.{_≡_, refl, sym, ap, ap₂, _∙_}
 use mathlib.Core.Bool.{Bool, true, false, cond}
 use mathlib.Core.List.{List, [], _∷_, _++_, append-assoc, append-nil}
-use Prim.Native.Nat.{ℕ, zero, suc, _<_, _^_}
+use Prim.Native.Nat.{ℕ, _<_, _^_}
 use native.Mathlib.Omega.{arith}
-use lib.ListN.{getD, drop}
+use lib.ListN.{drop}
 use Rattle.basis.specs.Given.{Given}
-use Rattle.wire.specs.Bytes.{le4, wordAt}
-use Rattle.wire.proofs.Words.{word-bytes, word-back}
+use Rattle.wire.specs.Bytes.{AllBytes, le4, wordAt}
+use Rattle.wire.proofs.Words.{no-bytes, byte-more, bytes-append, word-bytes, word-back}
 use Rattle.records.specs.Kinds.{kindValue, valueSize, kindTrigger, triggerSize}
 use Rattle.records.specs.Encoding.{valueRecord, triggerRecord, raised, recordOf, encode}
 use Rattle.records.specs.Reading.{Item, value, trigger, recordSize, readItems, valuesIn, readBack, itemsOf, itemsGiven, Fits, AllFit, none, more}
 use Rattle.records.proofs.Reading.{item-of-value, item-of-trigger, size-of-whole-value, size-of-whole-trigger, size-within, reading-stops, items-by-first}
-
--- each is below 256
-abbrev pub AllBytes : List ℕ → Type 0
-AllBytes l = (i : ℕ) → getD l i 0 < 256
-
-byte-more : (b : ℕ) (l : List ℕ) → b < 256 → AllBytes l → AllBytes (b ∷ l)
-byte-more b l h k zero = h
-byte-more b l h k (suc i) = k i
-
-bytes-append : (a b : List ℕ) → AllBytes a → AllBytes b → AllBytes (a ++ b)
-bytes-append [] b h k = k
-bytes-append (x ∷ a) b h k = byte-more x (a ++ b) (h 0) (bytes-append a b (λ i. h (suc i)) k)
 
 -- a record in front
 value-in-front : (y p w : ℕ) (rest : List ℕ) → p < 2 ^ 32 → w < 2 ^ 32 → readItems (valueRecord y p w ++ rest) ≡ value y p w ∷ readItems rest
@@ -113,14 +101,13 @@ module _ (roles : List ℕ) where
 
       value-bytes : AllBytes v
       value-bytes =
-          byte-more kindValue (g .stream ∷ (le4 (g .position) ++ le4 (g .word))) (omega arith)
-          (byte-more (g .stream) (le4 (g .position) ++ le4 (g .word)) (f .stream-fits) (bytes-append (le4 (g .position)) (le4 (g .word)) (word-bytes (g .position)) (word-bytes (g .word))))
+          byte-more {b = kindValue} (omega arith) (byte-more (f .stream-fits) (bytes-append (word-bytes (g .position)) (word-bytes (g .word))))
 
       go : (b : Bool) → AllBytes (v ++ cond b t [])
-      go true = bytes-append v t value-bytes (byte-more kindTrigger (g .stream ∷ le4 (g .position)) (omega arith) (byte-more (g .stream) (le4 (g .position)) (f .stream-fits) (word-bytes (g .position))))
-      go false = bytes-append v [] value-bytes (λ i. omega arith)
+      go true = bytes-append value-bytes (byte-more {b = kindTrigger} (omega arith) (byte-more (f .stream-fits) (word-bytes (g .position))))
+      go false = bytes-append value-bytes no-bytes
 
   pub encode-bytes : (gs : List (Given ℕ)) → AllFit gs → AllBytes (encode roles gs)
   unfolding encode
-  encode-bytes [] none = λ i. omega arith
-  encode-bytes (g ∷ gs) (more f fs) = bytes-append (recordOf roles g) (encode roles gs) (record-bytes g f) (encode-bytes gs fs)
+  encode-bytes [] none = no-bytes
+  encode-bytes (g ∷ gs) (more f fs) = bytes-append (record-bytes g f) (encode-bytes gs fs)

@@ -2,4 +2,3 @@ pub mod Sizes
 pub mod Reading
 pub mod Back
 pub mod Lines
-pub mod Listing

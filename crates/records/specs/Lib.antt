@@ -2,4 +2,3 @@ pub mod Kinds
 pub mod Encoding
 pub mod Reading
 pub mod Lines
-pub mod Listing

@@ -1,16 +1,16 @@
 -- What an accepted call tells, and what it and a refused one answer (document 01, "A run" and "Refusal numbers").
 -- Assumes nothing.
 use Prim.Native.Nat.{ℕ, _≤_, _<_}
-use mathlib.Core.Path.{_≡_, refl}
+use mathlib.Core.Path.{_≡_, refl, sym, ap, _∙_}
 use mathlib.Core.Bool.{Bool, true, false, _&&_, cond}
-use mathlib.Core.List.{List}
+use mathlib.Core.List.{List, _++_}
 use mathlib.Core.Logic.{_⊎_, inl, inr}
 use lib.ListN.{length}
 use native.Mathlib.Omega.{arith}
 use borrow.Author.Tests.{ltb-true, leb-true, eqb-true, eq-eqb, ne-eqb}
 use lib.Dec.{leb, ltb, eqb}
 use Rattle.basis.proofs.Tests.{and-true, true-false}
-use Rattle.run.specs.Run.{Plan, words, Phase, reading, draining, over, Rec, Call, row, close, drain, Answer, isReading, isDraining, inPhase, ofTable, refuse, turn, accepts, answered, answer}
+use Rattle.run.specs.Run.{Plan, words, Phase, reading, draining, over, Rec, Call, row, close, drain, Answer, isReading, isDraining, inPhase, ofTable, refuse, turn, accepts, answered, answer, Lent, other, part}
 
 reading-true : (f : Phase) → isReading f ≡ true → f ≡ reading
 reading-true reading h = refl
@@ -34,6 +34,12 @@ pub row-facts : {W B F : Type 0} (p : Plan W B F) (ws : List B) (out : ℕ) (c :
 row-facts p ws out c st h =
     let x = all-four (ofTable p c) (leb (words p) (length st)) (isReading (c .phase)) (ltb (c .rows) (p .limit) && (p .wellFormed ws && leb (p .room) out)) h in
     (x .0, leb-true (words p) (length st) (x .1), reading-true (c .phase) (x .2), ltb-true (c .rows) (p .limit) (and-true (ltb (c .rows) (p .limit)) (p .wellFormed ws && leb (p .room) out) (x .3) .0))
+
+pub row-brings : {W B F : Type 0} (p : Plan W B F) (ws : List B) (out : ℕ) (c : Rec) (st : List B) → accepts p (row ws out) c st ≡ true → (p .wellFormed ws ≡ true) × (p .room ≤ out)
+row-brings p ws out c st h =
+    let x = all-four (ofTable p c) (leb (words p) (length st)) (isReading (c .phase)) (ltb (c .rows) (p .limit) && (p .wellFormed ws && leb (p .room) out)) h in
+    let y = and-true (p .wellFormed ws) (leb (p .room) out) (and-true (ltb (c .rows) (p .limit)) (p .wellFormed ws && leb (p .room) out) (x .3) .1) in
+    (y .0, leb-true (p .room) out (y .1))
 
 pub drain-facts : {W B F : Type 0} (p : Plan W B F) (out : ℕ) (c : Rec) (st : List B) → accepts p (drain out) c st ≡ true →
     (ofTable p c ≡ true) × (words p ≤ length st) × (c .phase ≡ draining)
@@ -88,3 +94,8 @@ refused-store q k c st h = go (accepts q k c st) refl
     go : (b : Bool) → accepts q k c st ≡ b → answer q k c st .store ≡ st
     go false e = rw e
     go true e = let x : answer q k c st .accepted ≡ true = rw e (answered-yes q k c st) in true-false x h
+
+-- so the run's store stays, whatever the call was lent
+pub lent-same : {B : Type 0} {st lent left after : List B} → Lent st lent left after → left ≡ lent → after ≡ st
+lent-same (other lent left) e = refl
+lent-same (part front lent back left s) e = ap (λ (l : List _). front ++ (l ++ back)) e ∙ sym s

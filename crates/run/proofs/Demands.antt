@@ -3,7 +3,7 @@
 use Prim.Native.Nat.{ℕ, _+_, _-_, _≤_, _<_}
 use mathlib.Core.Path.{_≡_, refl, sym, ap, _∙_}
 use mathlib.Core.Bool.{Bool, true, false, _&&_, cond}
-use mathlib.Core.List.{List, [], _++_, append-nil}
+use mathlib.Core.List.{List, [], _++_, flatten}
 use mathlib.Core.Logic.{_⊎_, inl, inr, ⊎-elim}
 use lib.ListN.{length, getD, drop, length-append}
 use native.Mathlib.Omega.{arith}
@@ -11,17 +11,17 @@ use borrow.Author.Tests.{lt-ltb, le-leb}
 use lib.Dec.{ltb}
 use lib.Seq.{getD-take, take-append-seam}
 use Rattle.basis.proofs.Tests.{true-and, true-false}
-use Rattle.run.specs.Demands.{Demand2, Demand3}
-use Rattle.lola.specs.Expressions.{at, Spec}
+use Rattle.run.specs.Demands.{givenFor, Demand2, Demand3}
+use Rattle.lola.specs.Expressions.{Spec}
 use Rattle.lola.specs.Models.{trace}
 use Rattle.basis.specs.Given.{Given}
 use Rattle.run.specs.Run.{Plan, Announced, words, Phase, reading, draining, over, Rec, Call, row, close, drain, isReading, isDraining, turn, accepts, answered, answer, rowsIn, closed, drained, Run, opening, taken, refused, ModelOf, owed, owedBefore}
 use Rattle.lola.specs.Schedule.{Schedule}
-use Rattle.run.proofs.Calls.{row-facts, drain-facts, close-facts, reading-done, draining-done, passed, answer-eq, answered-yes}
+use Rattle.run.proofs.Calls.{row-facts, row-brings, drain-facts, close-facts, reading-done, draining-done, passed, answer-eq, answered-yes}
 use Rattle.run.proofs.Due.{due-not}
 use Rattle.lola.proofs.Existence.{well-defined}
 use Rattle.run.proofs.Gathers.{gather-none}
-use Rattle.run.proofs.Once.{owed-once}
+use Rattle.run.proofs.Once.{owed-at, owed-here, owed-once}
 use Rattle.run.proofs.Runs.{sound}
 use Rattle.lola.proofs.Schedules.{prefix-independent}
 use Rattle.run.proofs.Unread.{answer-same}
@@ -82,7 +82,7 @@ module _ {W B F : Type 0} (p : Plan W B F) (rank : ℕ → ℕ) (Fits : ℕ → 
       let o : closed ks ≡ true = drain-phase p (closed ks) (c .rows) (drained ks) (sym (i .0) ∙ f .2) in
       let n : ltb 0 (c .rows) ≡ true = lt-ltb 0 (c .rows) (draining-done p c (f .0) (f .2) .1) in
       rw (answer-eq p (drain out) c st a, o, n, i .1) (refl, refl)
-  stage (refused r q k c' h) = stage r
+  stage (refused r q k c' l h) = stage r
 
   -- what is accepted
   yes-of : (k : Call B) (c : Rec) (st : List B) → accepts p k c st ≡ true → answer p k c st .accepted ≡ true
@@ -123,6 +123,30 @@ module _ {W B F : Type 0} (p : Plan W B F) (rank : ℕ → ℕ) (Fits : ℕ → 
       (true-and (le-leb (words p) (length st) (omega (arith, s .enough, s .sized)))
       (true-and ph (le-leb (p .room) out z))))
 
+  -- and nothing else
+  module _ {ks : List (Call B)} {c : Rec} {st : List B} {log : List (List (Given W))} (r : Run p st₀ ks c st log) (other : List B) where
+    only-until-closing : c .phase ≡ reading → closed ks ≡ false
+    only-until-closing h = open-phase p (closed ks) (c .rows) (drained ks) (sym (stage r .0) ∙ h)
+
+    pub only-rows : (ws : List B) (out : ℕ) → answer p (row ws out) c other .accepted ≡ true → (closed ks ≡ false) × (length (rowsIn ks) < p .limit) × (p .wellFormed ws ≡ true) × (p .room ≤ out)
+    only-rows ws out h =
+        let a = passed p (row ws out) c other h in
+        let f = row-facts p ws out c other a in
+        let b = row-brings p ws out c other a in
+        (only-until-closing (f .2), omega (arith, f .3, sound p rank Fits an st₀ r .counted), b .0, b .1)
+
+    pub only-closing : answer p close c other .accepted ≡ true → closed ks ≡ false
+    only-closing h = only-until-closing (close-facts p c other (passed p close c other h) .1)
+
+    pub only-drains : (out : ℕ) → answer p (drain out) c other .accepted ≡ true → (closed ks ≡ true) × (0 < length (rowsIn ks)) × (drained ks < p .closing)
+    only-drains out h =
+        let f = drain-facts p out c other (passed p (drain out) c other h) in
+        let d = draining-done p c (f .0) (f .2) in (
+          drain-phase p (closed ks) (c .rows) (drained ks) (sym (stage r .0) ∙ f .2),
+          omega (arith, d .1, sound p rank Fits an st₀ r .counted),
+          omega (arith, d .2, stage r .1),
+        )
+
   -- what is given: turn by turn what the model owes, however the trace goes on until it is closed
   pub given-right :
       {ks : List (Call B)} {c : Rec} {st : List B} {log : List (List (Given W))} → Run p st₀ ks c st log →
@@ -157,12 +181,20 @@ demand3 {W} {B} {F} p rank Fits an st₀ {ks} {c} {st} {log} r = record {
   takes-rows = λ o l ws out w z. row-accepted p rank Fits an st₀ r o ws out l w z;
   takes-close = λ o. close-accepted p rank Fits an st₀ r o;
   takes-drains = λ o n d out z. drain-accepted p rank Fits an st₀ r o out n d z;
+  takes-only-rows = λ ws out other. only-rows p rank Fits an st₀ r other ws out;
+  closes-once = only-closing p rank Fits an st₀ r;
+  takes-only-drains = λ out other. only-drains p rank Fits an st₀ r other out;
   gives = given-right p rank Fits an st₀ r;
   rest = rest-untouched p rank Fits an st₀ r;
-  unread = λ other e l k. let x = answer-same p rank Fits an other st e k c l (let z = sound p rank Fits an st₀ r in omega (arith, z .enough, z .sized)) in (x .0, x .1, x .2);
+  unread = λ other a k. answer-same p rank Fits an other st a k c;
+  once = λ more q σ m y j a b h t.
+      let N = length (rowsIn ks ++ more) in
+      let T = length (rowsIn ks) + drained ks in
+      let g = given-right p rank Fits an st₀ r more q σ m in
+      let i : j < N = omega (arith, h, length-append (rowsIn ks) more) in (
+        ap (λ (l : List (List (Given W))). givenFor y j (getD l (j + p .look y) [])) g ∙ ap (givenFor y j) (owed-at p σ N T (j + p .look y) t) ∙ owed-here p σ N y j a b i,
+        ap (λ (l : List (List (Given W))). givenFor y j (flatten l)) g ∙ owed-once p σ N y j a b i T t,
+      );
+  ends = λ z y j b h. ⊎-elim (λ e. absurd (omega arith)) (λ e. omega (arith, an .longest y b)) z;
   finished = λ z σ t h. nothing-owed p rank Fits an σ (length (rowsIn ks)) t (⊎-elim inl (λ e. inr (omega arith)) z);
-  ends = λ o z σ m y j a b h. rw (all σ m) (owed-once p σ (length (rowsIn ks)) y j a b h (length (rowsIn ks) + drained ks) (⊎-elim (λ e. absurd (omega arith)) (λ e. omega (arith, an .longest y b)) z));
 }
-  where
-    all : (σ : ℕ → ℕ → W) → ModelOf p (rowsIn ks) σ → log ≡ owedBefore p σ (length (rowsIn ks)) (length (rowsIn ks) + drained ks)
-    all σ m = rw append-nil at (given-right p rank Fits an st₀ r [] (λ e. refl) σ (rw append-nil m))

@@ -15,7 +15,7 @@ use Rattle.basis.proofs.Tests.{true-and, true-false}
 use Rattle.basis.specs.Given.{Given}
 use Rattle.run.specs.Run.{Plan, Announced, words, view, slotOn, storeAfter, givenOn, reading, draining, over, Rec, Call, row, close, drain, isReading, inPhase, ofTable, turn, accepts, answered, opened, rowsIn, Run, opening, taken, refused, ModelOf, owed, owedBefore}
 use Rattle.run.specs.Turn.{due}
-use Rattle.run.proofs.Calls.{row-facts, drain-facts, close-facts, reading-done, draining-done, over-agrees, passed, answer-eq, refused-store}
+use Rattle.run.proofs.Calls.{row-facts, drain-facts, close-facts, reading-done, draining-done, over-agrees, passed, answer-eq, refused-store, lent-same}
 use Rattle.run.proofs.Due.{due-facts, due-same}
 use Rattle.run.proofs.Gathers.{gather-cong}
 use Rattle.run.proofs.Stores.{write-length, write-rest, write-at}
@@ -42,6 +42,14 @@ module _ {W B F : Type 0} (p : Plan W B F) (rank : ℕ → ℕ) (Fits : ℕ → 
     turn-holds v q l a b d =
         write-at (p .layout) (p .spec .streams) (p .kept) Fits (an .laid) (slotOn p t) (λ w k. mod-lt (t - p .look w) (an .keeps .some w k)) (due (p .look) n t) _ (due-fits p rank Fits an n t ws st) (p .spec .streams) v (q % p .kept v) st (omega arith) l (mod-lt q (an .keeps .some v l)) fits
         ∙ unfold stored in stored-ok (p .spec) (p .look) rank (p .kept) (an .schedule) (an .keeps) (p .blank) (length rows) _ σ m n t to from _ word-ok (view p st) holds v q l a b d
+
+  pub turn-length : (n t : ℕ) (ws st : List B) (c : Rec) → length (turn p n t ws st c .store) ≡ length st
+  unfolding turn storeAfter
+  turn-length n t ws st c = write-length (p .layout) (p .spec .streams) (p .kept) Fits (an .laid) (slotOn p t) (λ v l. mod-lt (t - p .look v) (an .keeps .some v l)) _ _ (p .spec .streams) st (omega arith)
+
+  turn-drop : (n t : ℕ) (ws st : List B) (c : Rec) → drop (words p) (turn p n t ws st c .store) ≡ drop (words p) st
+  unfolding turn storeAfter
+  turn-drop n t ws st c = write-rest (p .layout) (p .spec .streams) (p .kept) Fits (an .laid) (slotOn p t) (λ v l. mod-lt (t - p .look v) (an .keeps .some v l)) _ _ (p .spec .streams) st (omega arith)
 
 not-reading : (b : Bool) → isReading (cond b draining over) ≡ false
 not-reading true = refl
@@ -71,14 +79,6 @@ module _ {W B F : Type 0} (p : Plan W B F) (rank : ℕ → ℕ) (Fits : ℕ → 
     right = λ more nr σ m. ((λ v q l a b d. absurd (omega arith)), refl);
   }
 
-  pub turn-length : (n t : ℕ) (ws st : List B) (c : Rec) → length (turn p n t ws st c .store) ≡ length st
-  unfolding turn storeAfter
-  turn-length n t ws st c = write-length (p .layout) (p .spec .streams) (p .kept) Fits (an .laid) (slotOn p t) (λ v l. mod-lt (t - p .look v) (an .keeps .some v l)) _ _ (p .spec .streams) st (omega arith)
-
-  turn-drop : (n t : ℕ) (ws st : List B) (c : Rec) → drop (words p) (turn p n t ws st c .store) ≡ drop (words p) st
-  unfolding turn storeAfter
-  turn-drop n t ws st c = write-rest (p .layout) (p .spec .streams) (p .kept) Fits (an .laid) (slotOn p t) (λ v l. mod-lt (t - p .look v) (an .keeps .some v l)) _ _ (p .spec .streams) st (omega arith)
-
   row-sound : (rows : List (List B)) (c : Rec) (st : List B) (log : List (List (Given W))) → Sound p st₀ rows c st log →
       (ws : List B) (out : ℕ) → accepts p (row ws out) c st ≡ true →
       Sound p st₀ (rows ++ (ws ∷ [])) (answered p (row ws out) c st .after) (answered p (row ws out) c st .store) (log ++ (answered p (row ws out) c st .given ∷ []))
@@ -87,8 +87,8 @@ module _ {W B F : Type 0} (p : Plan W B F) (rank : ℕ → ℕ) (Fits : ℕ → 
     counted = omega (arith, so .counted, length-append rows (ws ∷ []));
     table = true-and (le-leb (suc (c .rows)) (p .limit) (omega (arith, facts .3))) refl;
     enough = so .enough;
-    sized = turn-length (suc t) t ws st c' ∙ so .sized;
-    rest = turn-drop (suc t) t ws st c' ∙ so .rest;
+    sized = turn-length p rank Fits an (suc t) t ws st c' ∙ so .sized;
+    rest = turn-drop p rank Fits an (suc t) t ws st c' ∙ so .rest;
     right = λ more nr σ m. rw (append-snoc rows ws more, turns) (next more σ (rw (append-snoc rows ws more) at m));
   }
     where
@@ -160,8 +160,8 @@ module _ {W B F : Type 0} (p : Plan W B F) (rank : ℕ → ℕ) (Fits : ℕ → 
     counted = so .counted;
     table = true-and (le-leb (c .rows) (p .limit) (d .0)) (agree (ltb (suc (c .done)) (p .closing)) refl);
     enough = so .enough;
-    sized = turn-length (c .rows) t [] st c' ∙ so .sized;
-    rest = turn-drop (c .rows) t [] st c' ∙ so .rest;
+    sized = turn-length p rank Fits an (c .rows) t [] st c' ∙ so .sized;
+    rest = turn-drop p rank Fits an (c .rows) t [] st c' ∙ so .rest;
     right = λ more nr σ m. rw turns (next more (nr (not-reading (ltb (suc (c .done)) (p .closing)))) σ m);
   }
     where
@@ -210,4 +210,4 @@ module _ {W B F : Type 0} (p : Plan W B F) (rank : ℕ → ℕ) (Fits : ℕ → 
   sound (taken {ks = ks} {c = c} {st = st} {log = log} r (drain out) h) =
       let a = passed p (drain out) c st h in
       rw (answer-eq p (drain out) c st a, append-nil (rowsIn ks)) (drain-sound (rowsIn ks) c st log (sound r) out a)
-  sound (refused {st = st} r q k c' h) = rw (refused-store q k c' st h) (sound r)
+  sound (refused r q k c' {lent = lent} l h) = rw (lent-same l (refused-store q k c' lent h)) (sound r)

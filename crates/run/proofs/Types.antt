@@ -5,7 +5,7 @@ use mathlib.Core.Path.{_≡_, refl, subst}
 use mathlib.Core.Bool.{Bool, true, false, cond}
 use mathlib.Core.List.{List}
 use mathlib.Core.Logic.{_⊎_, inl, inr}
-use lib.ListN.{length, getD}
+use lib.ListN.{getD}
 use native.Mathlib.Omega.{arith}
 use borrow.Author.Tests.{eqb-true, lt-ltb, le-ltb}
 use lib.Dec.{eqb}
@@ -13,10 +13,10 @@ use lib.IntN.{ℤ}
 use native.Mathlib.Nat.{mod-lt}
 use Rattle.basis.specs.Parts.{up, down}
 use Rattle.basis.proofs.Tests.{lt-or-ge}
-use Rattle.lola.specs.Expressions.{Ref, now, at, target, rise, fall}
+use Rattle.lola.specs.Expressions.{Ref, now, at, Spec, target, rise, fall}
 use Rattle.lola.specs.Graph.{Edge}
-use Rattle.lola.specs.Models.{inside, refer}
-use Rattle.run.specs.Run.{Plan, Typed, Announced, view, dueOf, ModelOf}
+use Rattle.lola.specs.Models.{inside, refer, Model}
+use Rattle.run.specs.Run.{Plan, Typed, Announced, view, dueOf}
 use Rattle.lola.specs.Schedule.{Schedule}
 use Rattle.run.specs.Turn.{due, fetch, dueWithin, dueValue}
 use Rattle.run.proofs.Due.{due-facts}
@@ -35,24 +35,24 @@ refer-fits {W} Fits σ N j (at v k d) jN dflt h = go (inside N j k) refl
     go true e = let w = inside-place N j k e in h (j + up k - down k) (w .0) (w .1)
     go false e = dflt v k d refl
 
--- Each value of a model is of its stream's type.
-module _ {W B F : Type 0} (p : Plan W B F) (rank : ℕ → ℕ) (Fits : ℕ → W → Type 0) (sch : Schedule (p .spec) (p .look) rank) (ty : Typed p Fits) (rows : List (List B)) (σ : ℕ → ℕ → W) (m : ModelOf p rows σ) where
-  fits-below : (b v j : ℕ) → cost (p .spec) (p .look) rank v j < b → v < p .spec .streams → j < length rows → Fits v (σ v j)
+-- Each value of a model is of its stream's type, where the inputs', the defaults and what the equations give are.
+module _ {W F : Type 0} (s : Spec W F) (look rank : ℕ → ℕ) (Fits : ℕ → W → Type 0) (sch : Schedule s look rank) (ty : Typed s Fits) (N : ℕ) (input σ : ℕ → ℕ → W) (m : Model s N input σ) (in-ok : (x j : ℕ) → x < s .streams → j < N → Fits x (input x j)) where
+  fits-below : (b v j : ℕ) → cost s look rank v j < b → v < s .streams → j < N → Fits v (σ v j)
   fits-below zero v j c l h = absurd (omega arith)
-  fits-below (suc b) v j c l h = go (lt-or-ge v (p .spec .inputs)) (fits-below b)
+  fits-below (suc b) v j c l h = go (lt-or-ge v (s .inputs)) (fits-below b)
     where
-      go : (v < p .spec .inputs) ⊎ (p .spec .inputs ≤ v) → ((w q : ℕ) → cost (p .spec) (p .look) rank w q < b → w < p .spec .streams → q < length rows → Fits w (σ w q)) → Fits v (σ v j)
-      go (inl x) ih = rw (m .given v j x h) (ty .read v _ l)
+      go : (v < s .inputs) ⊎ (s .inputs ≤ v) → ((w q : ℕ) → cost s look rank w q < b → w < s .streams → q < N → Fits w (σ w q)) → Fits v (σ v j)
+      go (inl x) ih = rw (m .given v j x h) (in-ok v j l h)
       go (inr y) ih =
           rw (m .holds v j y l h)
-          (ty .equations v y l (refer σ (length rows) j) (λ r i.
-          let e : Edge (p .spec) v r = record { output = y; stream = l; occurs = i } in
-          refer-fits Fits σ (length rows) j r h
-          (λ w k d q. ty .defaults v w k d (subst (λ (x : Ref W). Edge (p .spec) v x) q e))
-          (λ q u z. ih (target r) q (omega (arith, cheaper (p .spec) (p .look) rank sch v r j q e u)) (sch .named v r e) z)))
+          (ty .equations v y l (refer σ N j) (λ r i.
+          let e : Edge s v r = record { output = y; stream = l; occurs = i } in
+          refer-fits Fits σ N j r h
+          (λ w k d q. ty .defaults v w k d (subst (λ (x : Ref W). Edge s v x) q e))
+          (λ q u z. ih (target r) q (omega (arith, cheaper s look rank sch v r j q e u)) (sch .named v r e) z)))
 
-  pub model-fits : (v j : ℕ) → v < p .spec .streams → j < length rows → Fits v (σ v j)
-  model-fits v j l h = fits-below (suc (cost (p .spec) (p .look) rank v j)) v j (omega arith) l h
+  pub model-fits : (v j : ℕ) → v < s .streams → j < N → Fits v (σ v j)
+  model-fits v j l h = fits-below (suc (cost s look rank v j)) v j (omega arith) l h
 
 -- The value due for v is of v's type, whatever the store holds.
 module _ {W B F : Type 0} (p : Plan W B F) (rank : ℕ → ℕ) (Fits : ℕ → W → Type 0) (an : Announced p rank Fits) (n t : ℕ) (ws st : List B) where
@@ -73,7 +73,7 @@ module _ {W B F : Type 0} (p : Plan W B F) (rank : ℕ → ℕ) (Fits : ℕ → 
   within-fits (suc f) v j a l e h = go (lt-or-ge v (p .spec .inputs)) (within-fits f)
     where
       go : (v < p .spec .inputs) ⊎ (p .spec .inputs ≤ v) → ((w q : ℕ) → rank w < f → w < p .spec .streams → q + p .look w ≡ t → q < n → Fits w (within f w)) → Fits v (within (suc f) v)
-      go (inl x) ih = rw (lt-ltb v (p .spec .inputs) x) (an .typed .read v _ l)
+      go (inl x) ih = rw (lt-ltb v (p .spec .inputs) x) (an .reads v _ l)
       go (inr y) ih =
           let j' : t - p .look v ≡ j = omega arith in
           rw (le-ltb v (p .spec .inputs) y, j')

@@ -5,7 +5,7 @@ use Prim.Native.Nat.{ℕ, zero, suc, _+_, _-_, _%_, _≤_, _<_}
 use mathlib.Core.Path.{_≡_}
 use mathlib.Core.Bool.{Bool, true, false, _&&_, cond}
 use mathlib.Core.List.{List, [], _∷_, _++_}
-use lib.ListN.{length, getD, drop, replicate}
+use lib.ListN.{length, getD, take, drop, replicate}
 use lib.Dec.{leb, ltb, eqb}
 use lib.IntN.{ℤ}
 use Rattle.basis.specs.Given.{Given}
@@ -34,19 +34,19 @@ pub record Plan (W B F : Type 0) : Type 0 where
   pub wellFormed : List B → Bool
 
 -- `Fits v x` says that x is of v's type: what a well-typed table gives
-pub record Typed {W B F : Type 0} (p : Plan W B F) (Fits : ℕ → W → Type 0) : Type 0 where
-  pub read : (v : ℕ) (b : B) → v < p .spec .streams → Fits v (p .get v b)
-  pub defaults : (y v : ℕ) (k : ℤ) (d : W) → Edge (p .spec) y (at v k d) → Fits v d
+pub record Typed {W F : Type 0} (s : Spec W F) (Fits : ℕ → W → Type 0) : Type 0 where
+  pub defaults : (y v : ℕ) (k : ℤ) (d : W) → Edge s y (at v k d) → Fits v d
   pub equations :
-      (y : ℕ) → p .spec .inputs ≤ y → y < p .spec .streams → (f : Ref W → W) →
-      ((r : Ref W) → Occurs r (p .spec .equation y) → Fits (target r) (f r)) → Fits y (value (p .spec .ops) f (p .spec .equation y))
+      (y : ℕ) → s .inputs ≤ y → y < s .streams → (f : Ref W → W) →
+      ((r : Ref W) → Occurs r (s .equation y) → Fits (target r) (f r)) → Fits y (value (s .ops) f (s .equation y))
 
 -- the plan's numbers are right
 pub record Announced {W B F : Type 0} (p : Plan W B F) (rank : ℕ → ℕ) (Fits : ℕ → W → Type 0) : Type 0 where
   pub schedule : Schedule (p .spec) (p .look) rank
   pub keeps : Keeps (p .spec) (p .look) (p .kept)
   pub longest : (v : ℕ) → v < p .spec .streams → p .look v ≤ p .closing
-  pub typed : Typed p Fits
+  pub reads : (v : ℕ) (b : B) → v < p .spec .streams → Fits v (p .get v b)
+  pub typed : Typed (p .spec) Fits
   pub laid : Lays (p .layout) (p .spec .streams) (p .kept) Fits
 
 -- the announced store words
@@ -198,8 +198,21 @@ turnsOf (row ws out) g = g ∷ []
 turnsOf close g = []
 turnsOf (drain out) g = g ∷ []
 
+-- two stores that hold n words, and the same ones
+pub record Alike {B : Type 0} (n : ℕ) (st st' : List B) : Type 0 where
+  pub same : take n st ≡ take n st'
+  pub long : n ≤ length st
+  pub long' : n ≤ length st'
+
+-- What a refused call may be lent while a run has the store st: it was lent the words `lent` and left `left` there; then st is `after`.
+pub data Lent {B : Type 0} (st : List B) : (lent left after : List B) → Type 0 where
+  -- another store, of any words
+  other : (lent left : List B) → Lent st lent left st
+  -- a part of the run's own, all of it or less (refusal 11)
+  part : (front lent back left : List B) → st ≡ front ++ (lent ++ back) → Lent st lent left (front ++ (left ++ back))
+
 -- A run on the store st₀: the accepted calls, the last first; the record and the store as they are now; what each turn gave.
--- A refused call may bring any table q, any record and any words.
+-- A refused call may bring any table q, any record, any words and any store.
 pub data Run {W B F : Type 0} (p : Plan W B F) (st₀ : List B) : List (Call B) → Rec → List B → List (List (Given W)) → Type 0 where
   opening : words p ≤ length st₀ → Run p st₀ [] (record { rows = 0; phase = reading; done = 0 }) (opened p st₀) []
   taken :
@@ -208,8 +221,8 @@ pub data Run {W B F : Type 0} (p : Plan W B F) (st₀ : List B) : List (Call B) 
       Run p st₀ (k ∷ ks) (answer p k c st .after) (answer p k c st .store) (log ++ turnsOf k (answer p k c st .given))
   refused :
       {ks : List (Call B)} {c : Rec} {st : List B} {log : List (List (Given W))} → Run p st₀ ks c st log →
-      (q : Plan W B F) (k : Call B) (c' : Rec) → answer q k c' st .accepted ≡ false →
-      Run p st₀ ks c (answer q k c' st .store) log
+      (q : Plan W B F) (k : Call B) (c' : Rec) {lent after : List B} → Lent st lent (answer q k c' lent .store) after → answer q k c' lent .accepted ≡ false →
+      Run p st₀ ks c after log
 
 -- σ is an evaluation model of the trace of these rows
 abbrev pub ModelOf : {W B F : Type 0} → Plan W B F → List (List B) → (ℕ → ℕ → W) → Type 0

@@ -4,3 +4,4 @@ pub mod Rows
 pub mod Tested
 pub mod Weighed
 pub mod Rise
+pub mod Determined

@@ -2,3 +2,4 @@ pub mod Layouts
 pub mod Places
 pub mod Frames
 pub mod Clearing
+pub mod Determined

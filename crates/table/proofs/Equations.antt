@@ -55,16 +55,16 @@ equation-sound ts s y at =
 pub wanted-type : {types ts : List ℕ} {seen : List (List ℕ)} (y : ℕ) → Seen types seen → y < length types → getD types y 0 < 3 → Seen ts seen → entry seen y seenType ≡ getD ts y 0
 wanted-type {types} {ts} y a l w b = ⊎-elim (b .types y) (λ g. absurd (omega (arith, a .types y l, a .few, b .past y g (omega (arith, l, a .few))))) (lt-or-ge y (length ts))
 
-module _ (s : List ℕ) (y at : ℕ) {f : ℕ} (p : f ≡ equationFault s at y) {ts : List ℕ} {seen seen′ : List (List ℕ)} where
-  pub equation-scanned : {w r : ℕ} → w ≡ getD ts y 0 → f ≡ 0 → Scanning (parse mostLevels ts s w (at + 2)) s ts seen seen′ r → Scanning (equationAt ts s y at) s ts seen seen′ r
+module _ (s : List ℕ) (y at : ℕ) {f : ℕ} (p : f ≡ equationFault s at y) {ts : List ℕ} {seen : List (List ℕ)} where
+  pub equation-scanned : {seen′ : List (List ℕ)} {w r : ℕ} → w ≡ getD ts y 0 → f ≡ 0 → Scanning (parse mostLevels ts s w (at + 2)) s ts seen seen′ r → Scanning (equationAt ts s y at) s ts seen seen′ r
   unfolding equationAt
   equation-scanned e z x = rw (← p, eq-eqb _ _ z, ← e) x
 
-  pub equation-refused : (f ≡ 0 → ⊥) → at ≤ length s → Seen ts seen′ → Scanning (equationAt ts s y at) s ts seen seen′ (f * places + at)
+  pub equation-refused : (f ≡ 0 → ⊥) → at ≤ length s → Seen ts seen → Scanning (equationAt ts s y at) s ts seen seen (f * places + at)
   unfolding equationAt
   equation-refused z h l =
       let e : equationAt ts s y at ≡ bad f at = rw (← p, ne-eqb _ _ z) in
-      scans-bad e (pos-of-ne-zero z) (omega (arith, p, equation-low s at y)) h l
+      scans-bad e (pos-of-ne-zero z) (omega (arith, p, equation-low s at y)) h (λ j h g. refl) l
 
 -- the equations from that of the stream y on
 pub data EquationsFit (ts s : List ℕ) : ℕ → List Equation → Type 0 where

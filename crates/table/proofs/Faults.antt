@@ -5,14 +5,15 @@ use mathlib.Core.Bool.{Bool, true, false, cond}
 use mathlib.Core.List.{List}
 use Prim.Native.Nat.{ℕ, zero, suc, _+_, _≤_, _<_}
 use native.Mathlib.Omega.{arith}
-use borrow.Author.Tests.{eq-eqb, ne-eqb, lt-ltb, eqb-true, eqb-false, leb-true, ltb-false}
+use borrow.Author.Tests.{eq-eqb, ne-eqb, lt-ltb, le-ltb, le-leb, eqb-true, eqb-false, leb-true, ltb-false}
 use lib.Dec.{eqb, ltb, leb}
 use lib.ListN.{length, getD}
 use Rattle.limits.specs.Limits.{mostStreams}
-use Rattle.limits.specs.Refusals.{wrongField, tooDeep}
+use Rattle.limits.specs.Refusals.{missing, wrongKind, wrongField, tooDeep}
 use Rattle.basis.proofs.Tests.{pick-case}
 use Rattle.node.specs.Kinds.{ruleOf, rows, look}
 use Rattle.node.specs.Node.{first}
+use Rattle.node.proofs.Faults.{neither, both-fine}
 use Rattle.table.specs.Records.{recordFault, typeRule, roleRule, headFault, inputFault, outputFault, equationFault, sideOf, streamFault, roleAt}
 
 -- ---- the bodies of these records, in the constant table by kind
@@ -42,11 +43,6 @@ next-of e z = rw (← e, eq-eqb _ _ z)
 pub here-of : {a x : ℕ} (b : ℕ) → a ≡ x → (a ≡ 0 → ⊥) → a ≡ first x b
 unfolding first
 here-of b e z = rw (← e, ne-eqb _ _ z)
-
--- neither of them
-neither : (a b : ℕ) → first a b ≡ 0 → (a ≡ 0) × (b ≡ 0)
-unfolding first
-neither a b = pick-case (λ (n : ℕ). n ≡ 0 → (a ≡ 0) × (b ≡ 0)) (eqb a 0) b a (λ p q. (eqb-true a 0 p, q)) (λ p q. absurd (eqb-false a 0 p q))
 
 -- ---- numbers: no fault has one above 6
 
@@ -93,15 +89,18 @@ equation-low s at y = first-low (record-low s at 4 1) (either-low (eqb (getD s (
 
 -- ---- a record without a fault lies in the table
 
-pub record-room : (s : List ℕ) (at k b : ℕ) → recordFault s at k b ≡ 0 → at + 1 + b ≤ length s
+pub record-there : (s : List ℕ) (at k b : ℕ) → recordFault s at k b ≡ 0 → (getD s at 0 ≡ k) × (at + 1 + b ≤ length s)
 unfolding recordFault
-record-room s at k b =
-    pick-case Room (ltb at (length s)) _ 2
-    (λ _. pick-case Room (eqb (getD s at 0) k) _ 3 (λ _. pick-case Room (leb (at + 1 + b) (length s)) 0 2 (λ p _. leb-true _ _ p) (λ _ q. absurd (omega arith))) (λ _ q. absurd (omega arith)))
+record-there s at k b =
+    pick-case There (ltb at (length s)) _ missing
+    (λ _. pick-case There (eqb (getD s at 0) k) _ wrongKind (λ p. pick-case There (leb (at + 1 + b) (length s)) 0 missing (λ q _. (eqb-true _ _ p, leb-true _ _ q)) (λ _ q. absurd (omega arith))) (λ _ q. absurd (omega arith)))
     (λ _ q. absurd (omega arith))
   where
-    Room : ℕ → Type 0
-    Room n = n ≡ 0 → at + 1 + b ≤ length s
+    There : ℕ → Type 0
+    There n = n ≡ 0 → (getD s at 0 ≡ k) × (at + 1 + b ≤ length s)
+
+pub record-room : (s : List ℕ) (at k b : ℕ) → recordFault s at k b ≡ 0 → at + 1 + b ≤ length s
+record-room s at k b e = record-there s at k b e .1
 
 pub stream-room : (side : ℕ) (s : List ℕ) (at : ℕ) → side ≤ 1 → streamFault side s at ≡ 0 → at + 2 + side ≤ length s
 unfolding streamFault inputFault outputFault
@@ -151,11 +150,11 @@ pub record StreamFits (t r : ℕ) : Type 0 where
   pub role-is : r ≤ 1
   pub trigger-is-flag : r ≡ 1 → t ≡ 0
 
-type-fits : (t : ℕ) → typeRule t ≡ 0 → t ≤ 2
+pub type-fits : (t : ℕ) → typeRule t ≡ 0 → t ≤ 2
 unfolding typeRule
 type-fits t = pick-case (λ (n : ℕ). n ≡ 0 → t ≤ 2) (ltb 2 t) wrongField 0 (λ _ q. absurd (omega arith)) (λ p _. ltb-false 2 t p)
 
-role-fits : (t r : ℕ) → roleRule t r ≡ 0 → (r ≤ 1) × (r ≡ 1 → t ≡ 0)
+pub role-fits : (t r : ℕ) → roleRule t r ≡ 0 → (r ≤ 1) × (r ≡ 1 → t ≡ 0)
 unfolding roleRule
 role-fits t r =
     pick-case Fits (ltb 1 r) wrongField _ (λ _ q. absurd (omega arith))
@@ -182,3 +181,29 @@ stream-fits side s at e = fits-by (eqb side 0) s at e
 pub input-role : (i v : ℕ) (s : List ℕ) (at : ℕ) → v < i → roleAt (sideOf i v) s at ≡ 0
 unfolding sideOf roleAt
 input-role i v s at h = rw (lt-ltb v i h)
+
+-- ---- a record that is there, each field within its rule, has no fault
+
+module _ (s : List ℕ) where
+  pub no-record-fault : (at k b : ℕ) → getD s at 0 ≡ k → at + 1 + b ≤ length s → recordFault s at k b ≡ 0
+  unfolding recordFault
+  no-record-fault at k b e h = rw (lt-ltb at (length s) (omega arith), eq-eqb _ _ e, le-leb _ _ h)
+
+  pub no-head-fault : getD s 0 0 ≡ 1 → 4 ≤ length s → getD s 1 0 ≡ 1 → 1 ≤ getD s 2 0 → 1 ≤ getD s 3 0 → getD s 2 0 + getD s 3 0 ≤ mostStreams → headFault s ≡ 0
+  unfolding headFault
+  no-head-fault e l a b c d =
+      both-fine _ _ (no-record-fault 0 1 3 e (omega arith))
+      (rw (a, ne-eqb (getD s 2 0) 0 (λ z. omega (arith, z, b)), ne-eqb (getD s 3 0) 0 (λ z. omega (arith, z, c)), le-leb _ _ d))
+
+  pub no-equation-fault : (at y : ℕ) → getD s at 0 ≡ 4 → at + 2 ≤ length s → getD s (at + 1) 0 ≡ y → equationFault s at y ≡ 0
+  unfolding equationFault
+  no-equation-fault at y e h q = both-fine _ _ (no-record-fault at 4 1 e (omega arith)) (rw (eq-eqb _ y q))
+
+pub no-type-fault : (t : ℕ) → t ≤ 2 → typeRule t ≡ 0
+unfolding typeRule
+no-type-fault t h = rw (le-ltb 2 t h)
+
+pub no-role-fault : (t r : ℕ) → r ≤ 1 → (r ≡ 1 → t ≡ 0) → roleRule t r ≡ 0
+unfolding roleRule
+no-role-fault t zero h f = refl
+no-role-fault t (suc r) h f = let e : suc r ≡ 1 = omega arith in rw (le-ltb 1 (suc r) h, ne-eqb (suc r) 0 (λ z. omega arith), eq-eqb t 0 (f e))

@@ -1,9 +1,13 @@
 pub mod Arrays
 pub mod Faults
 pub mod Streams
+pub mod Declares
 pub mod Equations
 pub mod Decoding
 pub mod Sound
+pub mod Equates
+pub mod Generation
 pub mod TableA
 pub mod Entries
 pub mod Edges
+pub mod Determined

@@ -54,7 +54,7 @@ module _ (s ts rs : List ℕ) (f : HeadsFit s ts rs) where
     each-stands : (y : ℕ) → getD s 2 0 ≤ y → y < length ts → Stands s (table qs) y
     each-stands y lo hi =
         let e = fit-at ts s _ (getD s 2 0) qs g (y - getD s 2 0) y (omega arith) (omega (arith, outputs-are)) in
-        record { end = e .end; parsed = e .parsed; starts = omega (arith, e .starts, f .bytes); fit = good-right ts s 16 (getD ts y 0) _ {n = e .end} (e .parsed) .fit }
+        record { end = e .end; parsed = e .parsed; starts = omega (arith, e .starts, f .bytes) }
 
     each-edge : (y v : ℕ) (k : ℤ) → Has y v k (edges (table qs)) → ((getD s 2 0 ≤ y) × (y < length ts)) × ((v < length ts) × Ranged k)
     unfolding edges

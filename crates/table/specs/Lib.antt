@@ -1,5 +1,6 @@
 pub mod Records
 pub mod Table
+pub mod Generation
 pub mod Answers
 pub mod Sound
 pub mod TableA

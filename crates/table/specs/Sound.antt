@@ -9,7 +9,6 @@ use lib.ListN.{length, getD}
 use Rattle.limits.specs.Limits.{leastTable, mostTable, mostStreams, mostLevels}
 use Rattle.limits.specs.Refusals.{tableLength, tooDeep, bytesAfter}
 use Rattle.basis.specs.Edges.{Has}
-use Rattle.expression.specs.Syntax.{Fit}
 use Rattle.expression.specs.Grammar.{good, parse}
 use Rattle.expression.specs.References.{Ranged}
 use Rattle.table.specs.Table.{Table, equationOf, streams, edges}
@@ -19,7 +18,6 @@ pub record Stands (s : List ℕ) (t : Table) (y : ℕ) : Type 0 where
   pub end : ℕ
   pub parsed : parse mostLevels (t .types) s (getD (t .types) y 0) (equationOf t y .start) ≡ good (equationOf t y .expr) end
   pub starts : equationOf t y .start ≤ mostTable
-  pub fit : Fit (t .types) (getD (t .types) y 0) (equationOf t y .expr)
 
 pub record Sound (s : List ℕ) (t : Table) : Type 0 where
   -- "table 1 to 4,096 bytes"

@@ -12,7 +12,7 @@ use Rattle.table.specs.Table.{Table, decoded, decode, withHeads, tableOf}
 use Rattle.table.proofs.Faults.{HeadFits}
 use Rattle.table.proofs.Streams.{Headed, heads-fit}
 use Rattle.announce.specs.Announced.{announced}
-use Rattle.announce.proofs.Acceptance.{announced-answers}
+use Rattle.announce.proofs.Acceptance.{accepted-decodes}
 
 module _ (s : List ℕ) where
   headed : (d : Declared) → Headed s d → {t : Table} → withHeads d (λ ts rs n. tableOf s ts rs n) ≡ decoded t → HeadFits s
@@ -28,7 +28,4 @@ module _ (s : List ℕ) where
   stands i h = ⊎-elim (λ l. l) (λ g. absurd (omega (arith, List·getD-eq-default s 0 g))) (lt-or-ge i (length s))
 
   pub accepted-head : announced s .number ≡ 0 → (4 ≤ length s) × (getD s 2 0 + getD s 3 0 ≤ 32)
-  accepted-head e =
-      ⊎-elim (λ a. let f = decoded-head (a .grammar) in (stands 3 (f .some-output), f .few))
-      (λ r. absurd (omega (arith, r .some)))
-      (announced-answers s)
+  accepted-head e = let f = decoded-head (accepted-decodes s e .decodes) in (stands 3 (f .some-output), f .few)

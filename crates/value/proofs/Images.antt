@@ -1,9 +1,13 @@
 -- Laws of images and readings (document 01, "Values").
 -- Assumes nothing.
+use Prim.Native.Nat.{_<_, _^_}
 use mathlib.Core.Path.{_≡_, refl, sym, ap, subst}
 use mathlib.Core.Bool.{true, false}
 use mathlib.Core.List.{List}
 use lib.Dec.{T}
+use lib.Ieee.{binary32}
+use lib.Ieee.Bits.{toBits-lt}
+use native.Mathlib.Omega.{arith}
 use mir.Val.{Val}
 use denote.Laws.{Is}
 use denote.Enum.Laws.{owed}
@@ -20,6 +24,13 @@ read-image (Flag true) g = refl
 read-image (Flag false) g = refl
 read-image (Word w) g = refl
 read-image (Level x) g = ap Level (read-of-image x g)
+
+-- "Each takes one 32-bit word in rows, store and output"
+pub image-word : (v : Value) → Good v → imageOf v < 2 ^ 32
+image-word (Flag true) g = omega arith
+image-word (Flag false) g = omega arith
+image-word (Word w) g = g
+image-word (Level x) g = toBits-lt binary32 x g
 
 -- what owning a value tells: at a parameter it is `c .good .0`, at a call's result `.ok`
 pub good-of : (v : Value) (vs : List Val) → Is the-row v vs → Good v

@@ -1,3 +1,4 @@
 pub mod Equation
 pub mod Pass
 pub mod Whole
+pub mod Determined

@@ -1,4 +1,4 @@
--- A list of different numbers below S has at most S of them.
+-- A list of different numbers has at most S below S.
 -- Assumes nothing.
 use mathlib.Core.Path.{_≡_, refl, sym, subst}
 use mathlib.Core.Logic.{_⊎_, inl, inr, ⊎-elim}
@@ -9,15 +9,12 @@ use native.Mathlib.Nat.{not-suc-le-zero, le-of-suc-le-suc}
 use native.Mathlib.Decide.{ℕ-discrete}
 use lib.ListN.{length}
 use Rattle.basis.proofs.Tests.{lt-or-eq}
+use Rattle.walks.specs.Cycles.{In, Different}
 
-abbrev pub In : ℕ → List ℕ → Type 0
-In a [] = ⊥
-In a (b ∷ l) = (a ≡ b) ⊎ In a l
-
--- different, and below S
-abbrev pub Distinct : ℕ → List ℕ → Type 0
-Distinct S [] = Unit {0}
-Distinct S (a ∷ l) = (In a l → ⊥) × (a < S) × Distinct S l
+-- each is below S
+abbrev pub Under : ℕ → List ℕ → Type 0
+Under S [] = Unit {0}
+Under S (a ∷ l) = (a < S) × Under S l
 
 pub decIn : (a : ℕ) (l : List ℕ) → Dec (In a l)
 decIn a [] = no (λ h. h)
@@ -71,9 +68,9 @@ unfolding free cost
 free-nil zero = omega arith
 free-nil (suc s) = omega (arith, free-nil s, cost-no (decIn s []) (λ h. h))
 
-used : (S : ℕ) (l : List ℕ) → Distinct S l → length l + free S l ≤ S
-used S [] d = omega (arith, free-nil S)
-used S (a ∷ l) d = omega (arith, used S l (d .2), free-one S a l (d .0) (d .1))
+used : (S : ℕ) (l : List ℕ) → Different l → Under S l → length l + free S l ≤ S
+used S [] d u = omega (arith, free-nil S)
+used S (a ∷ l) d u = omega (arith, used S l (d .1) (u .1), free-one S a l (d .0) (u .0))
 
-pub few : (S : ℕ) (l : List ℕ) → Distinct S l → length l ≤ S
-few S l d = omega (arith, used S l d)
+pub few : (S : ℕ) (l : List ℕ) → Different l → Under S l → length l ≤ S
+few S l d u = omega (arith, used S l d u)

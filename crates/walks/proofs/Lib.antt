@@ -3,6 +3,7 @@ pub mod Through
 pub mod Loops
 pub mod LookAhead
 pub mod Distinct
+pub mod Cycles
 pub mod Short
 pub mod Place
 pub mod Squares
@@ -14,3 +15,4 @@ pub mod Schedule
 pub mod Bound
 pub mod Same
 pub mod Notes
+pub mod Examples

@@ -8,7 +8,22 @@ use native.Mathlib.Omega.{arith}
 use lib.ListN.{length, getD, drop, List·getD-append}
 use lib.Seq.{getD-append-add, getD-drop}
 use Rattle.basis.specs.Written.{Wrote}
-use Rattle.wire.specs.Bytes.{le4, wordOf, wordAt}
+use Rattle.wire.specs.Bytes.{AllBytes, le4, wordOf, wordAt}
+
+-- bytes put together are bytes
+pub no-bytes : AllBytes []
+no-bytes = record { each = λ i. omega arith }
+
+pub byte-more : {b : ℕ} {l : List ℕ} → b < 256 → AllBytes l → AllBytes (b ∷ l)
+byte-more {b} {l} h k = record { each = go }
+  where
+    go : (i : ℕ) → getD (b ∷ l) i 0 < 256
+    go zero = h
+    go (suc i) = k .each i
+
+pub bytes-append : {a b : List ℕ} → AllBytes a → AllBytes b → AllBytes (a ++ b)
+bytes-append {a = []} h k = k
+bytes-append {a = x ∷ a} h k = byte-more (h .each 0) (bytes-append {a = a} (record { each = λ i. h .each (suc i) }) k)
 
 pub word-length : (w : ℕ) → length (le4 w) ≡ 4
 unfolding le4
@@ -20,20 +35,25 @@ unfolding le4
 wrote-word w h = h
 
 -- each of the four is below 256
-pub word-bytes : (w i : ℕ) → getD (le4 w) i 0 < 256
+pub word-bytes : (w : ℕ) → AllBytes (le4 w)
 unfolding le4
-word-bytes w zero = omega arith
-word-bytes w (suc zero) = omega arith
-word-bytes w (suc (suc zero)) = omega arith
-word-bytes w (suc (suc (suc zero))) = omega arith
-word-bytes w (suc (suc (suc (suc i)))) = omega arith
+word-bytes w = byte-more (omega arith) (byte-more (omega arith) (byte-more (omega arith) (byte-more (omega arith) no-bytes)))
+
+-- four bytes make a word
+pub word-below : (s : List ℕ) → AllBytes s → (i : ℕ) → wordAt s i < 2 ^ 32
+unfolding wordAt
+word-below s h i = omega (arith, h .each i, h .each (i + 1), h .each (i + 2), h .each (i + 3))
 
 -- the four bytes of a word make the word
-word-of-its-bytes : (w : ℕ) → w < 2 ^ 32 → wordOf (w % 256) (w / 256 % 256) (w / 65536 % 256) (w / 16777216 % 256) ≡ w
+pub word-of-its-bytes : (w : ℕ) → w < 2 ^ 32 → wordOf (w % 256) (w / 256 % 256) (w / 65536 % 256) (w / 16777216 % 256) ≡ w
 word-of-its-bytes w h = by (w / 256) (w / 65536) (w / 16777216) refl (sym (div-div-eq-div-mul w 256 256)) (sym (div-div-eq-div-mul w 65536 256))
   where
     by : (a b c : ℕ) → a ≡ w / 256 → b ≡ a / 256 → c ≡ b / 256 → wordOf (w % 256) (a % 256) (b % 256) (c % 256) ≡ w
     by a b c e f g = omega (arith, div-add-mod' w 256, div-add-mod' a 256, div-add-mod' b 256)
+
+-- and four bytes are those of the word that they make
+pub its-bytes : (a b c d x : ℕ) → a < 256 → b < 256 → c < 256 → d < 256 → x ≡ wordOf a b c d → (a ≡ x % 256) × (b ≡ x / 256 % 256) × (c ≡ x / 65536 % 256) × (d ≡ x / 16777216 % 256)
+its-bytes a b c d x p q r t e = (omega arith, omega arith, omega arith, omega arith)
 
 -- reading back what was put
 pub word-back : (w : ℕ) → w < 2 ^ 32 → wordAt (le4 w) 0 ≡ w

@@ -1,8 +1,16 @@
 -- Numbers as bytes (document 01, "The table"): "Numbers are little-endian".
 -- Assumes nothing.
-use Prim.Native.Nat.{ℕ, _+_, _*_, _/_, _%_}
+use Prim.Native.Nat.{ℕ, _+_, _*_, _/_, _%_, _^_, _<_}
 use mathlib.Core.List.{List, [], _∷_}
 use lib.ListN.{getD}
+
+-- each entry is a byte, as in every slice of u8
+pub record AllBytes (l : List ℕ) : Type 0 where
+  pub each : (i : ℕ) → getD l i 0 < 256
+
+-- each entry is a word, as in every slice of u32
+abbrev pub AllWords : List ℕ → Type 0
+AllWords l = (i : ℕ) → getD l i 0 < 2 ^ 32
 
 -- a word's four bytes, the lowest first
 unfoldable pub le4 : ℕ → List ℕ

@@ -1,6 +1,6 @@
 -- `scan_leaf`: its body is missing, or the node as it is read.
 -- Assumes nothing.
-use mathlib.Core.Path.{ap, sym, _∙_}
+use mathlib.Core.Path.{refl, ap, sym, _∙_}
 use Prim.Native.Nat.{ℕ, _+_}
 use mir.Facts.{toZ-ofZ}
 use Rattle.node.specs.Kinds.{ruleOf}
@@ -31,7 +31,7 @@ refused-requires : tie.Need-refused-requires
 refused-requires c κs = omega (arith, leaf-within (c .before .before .before .before .before .args .table .now) (c .before .before .before .before .before .args .at) (c .before .before .before .before .before .pre .1), c .before .before .before .before .before .pre .0 .few)
 
 returns : tie.Need-returns
-returns c = λ ts l x. rw (c .refused .ensures) (refused-here (l + 1) ts _ _ _ x (omega (arith, leaf-within (c .before .before .before .before .before .before .args .table .now) (c .before .before .before .before .before .before .args .at) (c .before .before .before .before .before .before .pre .1))) (leaf-missing (c .before .before .before .before .before .before .args .table .now) (c .before .before .before .before .before .before .args .at) (c .before .before .before .before .before .before .pre .1) (c .before .before .body-of .ensures .0 ∙ ap (λ (n : ℕ). ruleOf n .body) (c .before .before .before .byte-size .ensures .0)) (l + 1) ts _ (c .before .if1 .taken)) (omega arith) (omega arith))
+returns c = λ ts l x. rw (c .refused .ensures) (refused-here (l + 1) ts _ _ _ (λ j h g. refl) x (omega (arith, leaf-within (c .before .before .before .before .before .before .args .table .now) (c .before .before .before .before .before .before .args .at) (c .before .before .before .before .before .before .pre .1))) (leaf-missing (c .before .before .before .before .before .before .args .table .now) (c .before .before .before .before .before .before .args .at) (c .before .before .before .before .before .before .pre .1) (c .before .before .body-of .ensures .0 ∙ ap (λ (n : ℕ). ruleOf n .body) (c .before .before .before .byte-size .ensures .0)) (l + 1) ts _ (c .before .if1 .taken)) (omega arith) (omega arith))
 
 node-of-requires : tie.Need-node-of-requires
 node-of-requires c κs = leaf-room (c .before .before .before .before .before .args .table .now) (c .before .before .before .before .before .args .at) (c .before .before .before .before .before .pre .1) (c .before .body-of .ensures .0 ∙ ap (λ (n : ℕ). ruleOf n .body) (c .before .before .byte-size .ensures .0)) (c .if1 .left)

@@ -10,6 +10,7 @@ use lib.ListN.{length, take, replicate, length-set}
 use lib.Seq.{length-take-le}
 use Rattle.limits.specs.Limits.{mostStreams}
 use Rattle.expression.specs.Seen.{Seen}
+use Rattle.expression.proofs.Seeing.{fresh-seen}
 use Rattle.table.proofs.Arrays.{ZeroFrom, zeros-at-first, zeros-left, padded-front}
 use Rattle.table.proofs.Equations.{refused-byte, equations-first, equations-end, equations-wrong, equations-more, read-behind}
 use Rattle.table.specs.declared.Solved.{Solved}
@@ -49,7 +50,7 @@ loop-holds c = record {
   solved = equations-first (c .before .before .before .args .from) _ (omega (arith, c .before .before .before .pre .outputs, c .before .before .before .pre .few-streams));
   rest = zeros-at-first _;
   place = c .before .before .before .pre .place;
-  rows = c .see .ensures (λ v _. omega (arith, c .before .before .before .pre .typed v)) .0;
+  rows = fresh-seen (c .before .before .before .args .types .now) (c .before .before .before .args .streams) (c .before .before .before .pre .few-streams) (c .see .ensures) (λ v _. omega (arith, c .before .before .before .pre .typed v)) .0;
 }
 
 scan-equation-requires : tie.Need-scan-equation-requires Inv-loop μ-loop

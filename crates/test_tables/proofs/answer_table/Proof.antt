@@ -8,11 +8,11 @@ use Rattle.test_tables.proofs.answer_table.Statement.{statement}
 use Rattle.test_tables.proofs.answer_table.Tie as tie
 
 streams-of-requires : tie.Need-streams-of-requires
-streams-of-requires c κs = accepted-head _ (sym (ap (λ (r : Checked). r .number) (c .before .before .before .before .before .check .ensures)) ∙ c .if1 .taken) .0
+streams-of-requires c κs = accepted-head _ (sym (ap (λ (r : Checked). r .number) (c .before .before .before .before .before .check .ensures .0)) ∙ c .if1 .taken) .0
 
 say-announced-requires : tie.Need-say-announced-requires
 say-announced-requires c κs =
-    omega (arith, c .streams-of .ensures, accepted-head _ (sym (ap (λ (r : Checked). r .number) (c .before .before .before .before .before .before .check .ensures)) ∙ c .before .if1 .taken) .1)
+    omega (arith, c .streams-of .ensures, accepted-head _ (sym (ap (λ (r : Checked). r .number) (c .before .before .before .before .before .before .check .ensures .0)) ∙ c .before .if1 .taken) .1)
 
 pub answer-table-spec : {M : Type 1} → statement M
 answer-table-spec =

@@ -12,6 +12,7 @@ use Rattle.basis.specs.Firsts.{of}
 use Rattle.limits.specs.Limits.{mostStreams, mostLevels}
 use Rattle.expression.specs.Grammar.{parse}
 use Rattle.expression.specs.Seen.{Seen, Unnoted}
+use Rattle.expression.proofs.Seeing.{fresh-seen}
 use Rattle.expression.specs.Scanning.{Scanning}
 use Rattle.table.proofs.Arrays.{zeros-at-first, zeros-front}
 use Rattle.table.proofs.Faults.{equation-room}
@@ -33,7 +34,7 @@ see-requires : tie.Need-see-requires Inv-loop μ-loop
 see-requires c κs = (c .before .before .pre .sized .0, c .before .before .pre .sized .1, refl)
 
 loop-holds : tie.Need-loop-holds Inv-loop μ-loop
-loop-holds c = (c .before .before .before .pre .some, (c .before .before .before .pre .place, (c .see .ensures (λ v l. let n : length (take (c .before .before .before .args .streams) (c .before .before .before .args .types .now)) ≡ c .before .before .before .args .streams = (length-take-le (c .before .before .before .args .streams) (c .before .before .before .args .types .now) (omega (arith, c .before .before .before .pre .sized .0, c .before .before .before .pre .sized .1))) in let q : getD (take (c .before .before .before .args .streams) (c .before .before .before .args .types .now)) v 0 ≡ getD (c .before .before .before .args .types .now) v 0 = getD-take (c .before .before .before .args .streams) (c .before .before .before .args .types .now) v 0 (omega (arith, l, n)) in omega (arith, q, c .before .before .before .pre .typed v (omega (arith, l, n)))), pass-start _ _ _ _ _ _ (none-noted _ _ _ (search needs) (search needs) (λ y h. getD-replicate mostStreams y 0 0 h) (λ y h. getD-replicate mostStreams y 0 0 h)) (rw (c .before .before .before .pre .starts-blank) (search needs)) (rw (c .before .before .before .pre .starts-blank) (zeros-at-first _)) (rw (c .before .before .before .pre .starts-blank) (zeros-front (c .before .before .before .args .inputs) mostStreams (omega (arith, c .before .before .before .pre .some, c .before .before .before .pre .sized .0)))))))
+loop-holds c = (c .before .before .before .pre .some, (c .before .before .before .pre .place, (fresh-seen (c .before .before .before .args .types .now) (c .before .before .before .args .streams) (c .before .before .before .pre .sized .0) (c .see .ensures) (λ v l. let n : length (take (c .before .before .before .args .streams) (c .before .before .before .args .types .now)) ≡ c .before .before .before .args .streams = (length-take-le (c .before .before .before .args .streams) (c .before .before .before .args .types .now) (omega (arith, c .before .before .before .pre .sized .0, c .before .before .before .pre .sized .1))) in let q : getD (take (c .before .before .before .args .streams) (c .before .before .before .args .types .now)) v 0 ≡ getD (c .before .before .before .args .types .now) v 0 = getD-take (c .before .before .before .args .streams) (c .before .before .before .args .types .now) v 0 (omega (arith, l, n)) in omega (arith, q, c .before .before .before .pre .typed v (omega (arith, l, n)))), pass-start _ _ _ _ _ _ (none-noted _ _ _ (search needs) (search needs) (λ y h. getD-replicate mostStreams y 0 0 h) (λ y h. getD-replicate mostStreams y 0 0 h)) (rw (c .before .before .before .pre .starts-blank) (search needs)) (rw (c .before .before .before .pre .starts-blank) (zeros-at-first _)) (rw (c .before .before .before .pre .starts-blank) (zeros-front (c .before .before .before .args .inputs) mostStreams (omega (arith, c .before .before .before .pre .some, c .before .before .before .pre .sized .0)))))))
 
 equation-fault-requires : tie.Need-equation-fault-requires Inv-loop μ-loop
 equation-fault-requires c κs = c .before .before .before .before .before .pre .tabulated

@@ -1,0 +1,4 @@
+pub mod Words
+pub mod Answers
+pub mod Turns
+pub mod Pieces
