@@ -133,6 +133,14 @@ static struct two make_pipe(bool from_waits, bool to_waits) {
     return (struct two){ends[0], ends[1]};
 }
 
+// A socket whose input doesn't wait, and who sends to it.
+static struct two make_sockets(void) {
+    int ends[2];
+    must(socketpair(AF_UNIX, SOCK_STREAM | SOCK_CLOEXEC, 0, ends), "socketpair");
+    must(fcntl(ends[0], F_SETFL, O_NONBLOCK), "fcntl");
+    return (struct two){ends[0], ends[1]};
+}
+
 // A terminal, and who sits at it. It passes bytes as they are but for the tilde, which no input here
 // has: that hands over what is typed, and ends the input where nothing is.
 static struct two make_terminal(void) {
@@ -332,11 +340,10 @@ static void regular(const char *name, const struct text *owed) {
 
 // ---- input that comes late, with rows cut in the middle
 
-static void late_input(bool waits) {
+static void late_input(struct two input, const char *name) {
     static const size_t cuts[] = {1, 2, 20, TABLE_END, FIRST_END - 1, FIRST_END, SECOND_END + 2};
-    struct two input = make_pipe(waits, true);
     size_t fed = 0;
-    start(input.from, output_file("given"), "late input%s", waits ? "" : ", not blocking");
+    start(input.from, output_file("given"), "late input%s", name);
     for (size_t i = 0; i < sizeof cuts / sizeof cuts[0]; i++) {
         feed_small(input.to, fed, cuts[i]);
         fed = cuts[i];
@@ -548,8 +555,9 @@ int main(int count, char **arguments) {
 
     regular("small", &small_owed);
     regular("large", &large_owed);
-    late_input(true);
-    late_input(false);
+    late_input(make_pipe(true, true), "");
+    late_input(make_pipe(false, true), ", not blocking");
+    late_input(make_sockets(), ", a socket, not blocking");
     stopped(true);
     stopped(false);
     late_output(true);

@@ -21,54 +21,17 @@ struct Went {
     state: State,
 }
 
-// Whether a call that failed may be made again: it was interrupted before it moved a byte, or nothing was ready.
+// Whether a call that failed may be made again: it was interrupted before it moved a byte, or nothing was ready. Then it waits a moment.
 fn again() -> bool {
     let error = os::errno();
-    error == libc::EINTR || error == libc::EAGAIN
-}
-
-// Whether a call on this descriptor failed since nothing was ready. A file that can be sought in is always ready.
-fn not_ready(descriptor: i32) -> bool {
-    os::errno() == libc::EAGAIN && libc::lseek(descriptor, 0, libc::SEEK_CUR) < 0
-}
-
-// One read that waits: standard input opened anew does not answer that nothing is ready.
-fn read_waiting(input: &mut [u8]) -> isize {
-    let opened = os::open_read(b"/dev/stdin");
-    let got = libc::read(opened, input);
-    libc::close(opened);
-    got
-}
-
-// One write that waits, to standard output or standard error.
-fn write_waiting(descriptor: i32, text: &[u8]) -> isize {
-    if descriptor == STDOUT_FILENO {
-        return write_to(os::open_append(b"/dev/stdout"), text);
+    if error == libc::EINTR {
+        return true;
     }
-    write_to(os::open_append(b"/dev/stderr"), text)
-}
-
-fn write_to(opened: i32, text: &[u8]) -> isize {
-    let got = libc::write(opened, text);
-    libc::close(opened);
-    got
-}
-
-// One read, and one write, that wait where nothing is ready.
-fn read_once(input: &mut [u8]) -> isize {
-    let got = libc::read(STDIN_FILENO, input);
-    if got < 0 && not_ready(STDIN_FILENO) {
-        return read_waiting(input);
+    if error != libc::EAGAIN {
+        return false;
     }
-    got
-}
-
-fn write_once(descriptor: i32, text: &[u8]) -> isize {
-    let got = libc::write(descriptor, text);
-    if got < 0 && not_ready(descriptor) {
-        return write_waiting(descriptor, text);
-    }
-    got
+    wait::pause();
+    true
 }
 
 // Puts all of the text to a descriptor, or answers false.
@@ -77,7 +40,7 @@ fn put(descriptor: i32, text: &[u8]) -> bool {
     let mut tries: u64 = u64::MAX;
     while done < text.len() && tries > 0 {
         let rest = &text[done..];
-        let got = write_once(descriptor, rest);
+        let got = libc::write(descriptor, rest);
         if got <= 0 && !again() {
             return false;
         }
@@ -107,7 +70,7 @@ fn at_end() -> isize {
 fn read_some(input: &mut [u8]) -> isize {
     let mut tries: u64 = u64::MAX;
     while tries > 0 {
-        let got = read_once(input);
+        let got = libc::read(STDIN_FILENO, input);
         if got > 0 {
             return got;
         }
