@@ -17,7 +17,7 @@ use denote.RattleType.{RattleType}
 use denote.Memory.{lone, pointee}
 use denote.Struct.Declared.{row}
 use denote.Triple.Statement.{Triple}
-use borrow.Table.Row.{Cx, Entry, sUnit, sInt, valS, off, alive, dead}
+use borrow.Table.Row.{Cx, Entry, Life, sUnit, sInt, valS, off, alive, dead}
 use borrow.Table.Rows.{any-gone, sc-here, sc-shr, sc-owed, whole, mref, mleft, sref}
 use borrow.Table.Reads.{room-gone, as-is, reads-sref, reads-mref}
 use borrow.Table.Own.{told-none}
@@ -51,10 +51,10 @@ use Rattle.wait.proofs.pause.Reads as Reads
 use Rattle.wait.proofs.pause.Statement.{statement}
 
 -- The locals: _0 the result, _1 `asked`, _2 `left`, _3 what nanosleep answers, _4 `&asked`, _5 `&mut left`.
---     t0 … t13     the rows of the locals at each point.        T0 … T13 the tables of them
+--     t0 … t13     the rows of the locals at each point.        (T t0) … (T t13) the tables of them
 --     s0 … s13     what each step does to the model, from the point of its number
 --     at13 … at0   what each point asks, from the return backwards. `at4′` is for the second time that both structs are held and nothing is lent
---     G0 … G13     the tables with the two lifetimes
+--     (G t0 (off ∷ off ∷ [])) … (G t13 (off ∷ off ∷ []))     the tables with the two lifetimes
 --     d13 … d0     the derivation, from the return backwards
 --     asked        what the contracts ask, proved: nanosleep requires nothing, and `pause` ensures nothing
 -- A change of `pause`'s code changes c0 to c5 here.
@@ -121,7 +121,7 @@ b0 = seq c0 b1
 same-code : Code.function ≡ Function.fnOf 0 ours.ps ours.r xs 2 hs b0
 same-code = refl
 
--- ---- the rows of the locals, and the tables without their lifetimes
+-- ---- the rows of the locals, and the tables of them
 abbrev t0 : List Entry
 t0 = (0, any-gone tyUnit) ∷ (1, any-gone σ) ∷ (2, any-gone σ) ∷ (3, any-gone (tyInt w32)) ∷ (4, any-gone τs) ∷ (5, any-gone τm) ∷ []
 
@@ -164,270 +164,174 @@ t12 = (0, sc-here sUnit) ∷ (1, any-gone σ) ∷ (2, whole R) ∷ (3, any-gone 
 abbrev t13 : List Entry
 t13 = (0, sc-here sUnit) ∷ (1, any-gone σ) ∷ (2, any-gone σ) ∷ (3, any-gone (tyInt w32)) ∷ (4, any-gone τs) ∷ (5, any-gone τm) ∷ []
 
-abbrev T0 : Cx
-T0 = record { locals = t0; slots = [] }
+-- rows with the statuses of the two lifetimes, the first that of `&asked`, the second that of `&mut left`; and without them
+abbrev G : List Entry → List Life → Cx
+G t lives = record { locals = t; slots = lives }
 
-abbrev T1 : Cx
-T1 = record { locals = t1; slots = [] }
-
-abbrev T2 : Cx
-T2 = record { locals = t2; slots = [] }
-
-abbrev T3 : Cx
-T3 = record { locals = t3; slots = [] }
-
-abbrev T4 : Cx
-T4 = record { locals = t4; slots = [] }
-
-abbrev T5 : Cx
-T5 = record { locals = t5; slots = [] }
-
-abbrev T6 : Cx
-T6 = record { locals = t6; slots = [] }
-
-abbrev T7 : Cx
-T7 = record { locals = t7; slots = [] }
-
-abbrev T8 : Cx
-T8 = record { locals = t8; slots = [] }
-
-abbrev T9 : Cx
-T9 = record { locals = t9; slots = [] }
-
-abbrev T10 : Cx
-T10 = record { locals = t10; slots = [] }
-
-abbrev T11 : Cx
-T11 = record { locals = t11; slots = [] }
-
-abbrev T12 : Cx
-T12 = record { locals = t12; slots = [] }
-
-abbrev T13 : Cx
-T13 = record { locals = t13; slots = [] }
+abbrev T : List Entry → Cx
+T t = G t []
 
 abbrev O : Outs
-O = record { next = none; exits = []; returns = some T13 }
+O = record { next = none; exits = []; returns = some (T t13) }
 
 -- ---- what each step does to the model
-abbrev s0 : Mo T0 → Mo T1
-s0 = n-struct-make (apartT the-type) T0 1 (λ m. (toZ w64 0, (toZ w64 1000000, tt)))
+abbrev s0 : Mo (T t0) → Mo (T t1)
+s0 = n-struct-make (apartT the-type) (T t0) 1 (λ m. (toZ w64 0, (toZ w64 1000000, tt)))
 
-abbrev s1 : Mo T1 → Mo T2
-s1 = n-as-by T1 1 (whole R) (λ v. struct .make v tt)
+abbrev s1 : Mo (T t1) → Mo (T t2)
+s1 = n-as-by (T t1) 1 (whole R) (λ v. struct .make v tt)
 
-abbrev s2 : Mo T2 → Mo T3
-s2 = n-struct-make (apartT the-type) T2 2 (λ m. (toZ w64 0, (toZ w64 0, tt)))
+abbrev s2 : Mo (T t2) → Mo (T t3)
+s2 = n-struct-make (apartT the-type) (T t2) 2 (λ m. (toZ w64 0, (toZ w64 0, tt)))
 
-abbrev s3 : Mo T3 → Mo T4
-s3 = n-as-by T3 2 (whole R) (λ v. struct .make v tt)
+abbrev s3 : Mo (T t3) → Mo (T t4)
+s3 = n-as-by (T t3) 2 (whole R) (λ v. struct .make v tt)
 
-abbrev s4 : Gives T4 T5
-s4 = Local.k-sc-share T4 1 4 0 R τs (λ x. x)
+abbrev s4 : Gives (T t4) (T t5)
+s4 = Local.k-sc-share (T t4) 1 4 0 R τs (λ x. x)
 
-abbrev s5 : Gives T5 T6
-s5 = Local.k-sc-borrow T5 2 5 1 R τm (λ x. x)
+abbrev s5 : Gives (T t5) (T t6)
+s5 = Local.k-sc-borrow (T t5) 2 5 1 R τm (λ x. x)
 
-abbrev s6 : Both T6 T7
-s6 = Call.callB nanosleep.ps nanosleep.r nanosleep.Asked nanosleep.Learnt T6 (record { pos = 4; ty = τs; ref = λ x. x }, (record { pos = 5; ty = τm; ref = λ x. x }, tt)) 3 (0 ∷ 1 ∷ []) (tyInt w32)
+abbrev s6 : Both (T t6) (T t7)
+s6 = Call.callB nanosleep.ps nanosleep.r nanosleep.Asked nanosleep.Learnt (T t6) (record { pos = 4; ty = τs; ref = λ x. x }, (record { pos = 5; ty = τm; ref = λ x. x }, tt)) 3 (0 ∷ 1 ∷ []) (tyInt w32)
 
-abbrev s7 : Mo T7 → Mo T8
-s7 = n-room T7 4 τs
+abbrev s7 : Mo (T t7) → Mo (T t8)
+s7 = n-room (T t7) 4 τs
 
-abbrev s8 : Mo T8 → Mo T9
-s8 = n-room T8 3 (tyInt w32)
+abbrev s8 : Mo (T t8) → Mo (T t9)
+s8 = n-room (T t8) 3 (tyInt w32)
 
-abbrev s9 : Mo T9 → Mo T10
-s9 = Local.n-back-shr T9 1 0 (whole R) (λ x. x)
+abbrev s9 : Mo (T t9) → Mo (T t10)
+s9 = Local.n-back-shr (T t9) 1 0 (whole R) (λ x. x)
 
-abbrev s10 : Asks T10 T4
-s10 = Local.k-back-sc T10 5 2 1 R τm (whole R) (λ x. x) (λ x. x) (λ x. x)
+abbrev s10 : Asks (T t10) (T t4)
+s10 = Local.k-back-sc (T t10) 5 2 1 R τm (whole R) (λ x. x) (λ x. x) (λ x. x)
 
-abbrev s11 : Mo T4 → Mo T11
-s11 = n-use T4 oUnit 0 (sc-here sUnit) (sUnit .of)
+abbrev s11 : Mo (T t4) → Mo (T t11)
+s11 = n-use (T t4) oUnit 0 (sc-here sUnit) (sUnit .of)
 
-abbrev s12 : Mo T11 → Mo T12
-s12 = n-room T11 1 σ
+abbrev s12 : Mo (T t11) → Mo (T t12)
+s12 = n-room (T t11) 1 σ
 
-abbrev s13 : Mo T12 → Mo T13
-s13 = n-room T12 2 σ
+abbrev s13 : Mo (T t12) → Mo (T t13)
+s13 = n-room (T t12) 2 σ
 
 -- ---- what each point asks, from the return backwards
-abbrev at13 : TF T13 O
+abbrev at13 : TF (T t13) O
 at13 = atRet O
 
-abbrev at12 : TF T12 O
-at12 = λ Ψ. pass T12 T13 s13 (at13 Ψ)
+abbrev at12 : TF (T t12) O
+at12 = λ Ψ. pass (T t12) (T t13) s13 (at13 Ψ)
 
-abbrev at11 : TF T11 O
-at11 = λ Ψ. pass T11 T12 s12 (at12 Ψ)
+abbrev at11 : TF (T t11) O
+at11 = λ Ψ. pass (T t11) (T t12) s12 (at12 Ψ)
 
-abbrev at4′ : TF T4 O
-at4′ = λ Ψ. pass T4 T11 s11 (at11 Ψ)
+abbrev at4′ : TF (T t4) O
+at4′ = λ Ψ. pass (T t4) (T t11) s11 (at11 Ψ)
 
-abbrev at10 : TF T10 O
+abbrev at10 : TF (T t10) O
 at10 = λ Ψ. ask s10 (at4′ Ψ)
 
-abbrev at9 : TF T9 O
-at9 = λ Ψ. pass T9 T10 s9 (at10 Ψ)
+abbrev at9 : TF (T t9) O
+at9 = λ Ψ. pass (T t9) (T t10) s9 (at10 Ψ)
 
-abbrev at8 : TF T8 O
-at8 = λ Ψ. pass T8 T9 s8 (at9 Ψ)
+abbrev at8 : TF (T t8) O
+at8 = λ Ψ. pass (T t8) (T t9) s8 (at9 Ψ)
 
-abbrev at7 : TF T7 O
-at7 = λ Ψ. pass T7 T8 s7 (at8 Ψ)
+abbrev at7 : TF (T t7) O
+at7 = λ Ψ. pass (T t7) (T t8) s7 (at8 Ψ)
 
-abbrev at6 : TF T6 O
+abbrev at6 : TF (T t6) O
 at6 = λ Ψ. both s6 (at7 Ψ)
 
-abbrev at5 : TF T5 O
+abbrev at5 : TF (T t5) O
 at5 = λ Ψ. give s5 (at6 Ψ)
 
-abbrev at4 : TF T4 O
+abbrev at4 : TF (T t4) O
 at4 = λ Ψ. give s4 (at5 Ψ)
 
-abbrev at3 : TF T3 O
-at3 = λ Ψ. pass T3 T4 s3 (at4 Ψ)
+abbrev at3 : TF (T t3) O
+at3 = λ Ψ. pass (T t3) (T t4) s3 (at4 Ψ)
 
-abbrev at2 : TF T2 O
-at2 = λ Ψ. pass T2 T3 s2 (at3 Ψ)
+abbrev at2 : TF (T t2) O
+at2 = λ Ψ. pass (T t2) (T t3) s2 (at3 Ψ)
 
-abbrev at1 : TF T1 O
-at1 = λ Ψ. pass T1 T2 s1 (at2 Ψ)
+abbrev at1 : TF (T t1) O
+at1 = λ Ψ. pass (T t1) (T t2) s1 (at2 Ψ)
 
-abbrev at0 : TF T0 O
-at0 = λ Ψ. pass T0 T1 s0 (at1 Ψ)
-
--- ---- the tables with their lifetimes:  the first is that of `&asked`, the second that of `&mut left`
-abbrev G0 : Cx
-G0 = record { locals = t0; slots = off ∷ off ∷ [] }
-
-abbrev G1 : Cx
-G1 = record { locals = t1; slots = off ∷ off ∷ [] }
-
-abbrev G2 : Cx
-G2 = record { locals = t2; slots = off ∷ off ∷ [] }
-
-abbrev G3 : Cx
-G3 = record { locals = t3; slots = off ∷ off ∷ [] }
-
-abbrev G4 : Cx
-G4 = record { locals = t4; slots = off ∷ off ∷ [] }
-
-abbrev G4a : Cx
-G4a = record { locals = t4; slots = alive ∷ off ∷ [] }
-
-abbrev G5 : Cx
-G5 = record { locals = t5; slots = alive ∷ off ∷ [] }
-
-abbrev G5a : Cx
-G5a = record { locals = t5; slots = alive ∷ alive ∷ [] }
-
-abbrev G6 : Cx
-G6 = record { locals = t6; slots = alive ∷ alive ∷ [] }
-
-abbrev G7 : Cx
-G7 = record { locals = t7; slots = alive ∷ alive ∷ [] }
-
-abbrev G8 : Cx
-G8 = record { locals = t8; slots = alive ∷ alive ∷ [] }
-
-abbrev G9 : Cx
-G9 = record { locals = t9; slots = alive ∷ alive ∷ [] }
-
-abbrev G9d : Cx
-G9d = record { locals = t9; slots = dead ∷ alive ∷ [] }
-
-abbrev G10 : Cx
-G10 = record { locals = t10; slots = dead ∷ alive ∷ [] }
-
-abbrev G10o : Cx
-G10o = record { locals = t10; slots = off ∷ alive ∷ [] }
-
-abbrev G10d : Cx
-G10d = record { locals = t10; slots = off ∷ dead ∷ [] }
-
-abbrev G4d : Cx
-G4d = record { locals = t4; slots = off ∷ dead ∷ [] }
-
-abbrev G11 : Cx
-G11 = record { locals = t11; slots = off ∷ off ∷ [] }
-
-abbrev G12 : Cx
-G12 = record { locals = t12; slots = off ∷ off ∷ [] }
-
-abbrev G13 : Cx
-G13 = record { locals = t13; slots = off ∷ off ∷ [] }
+abbrev at0 : TF (T t0) O
+at0 = λ Ψ. pass (T t0) (T t1) s0 (at1 Ψ)
 
 abbrev Δ : Outs
-Δ = record { next = none; exits = []; returns = some G13 }
+Δ = record { next = none; exits = []; returns = some (G t13 (off ∷ off ∷ [])) }
 
 module _ {M : Type 1} (𝓤 : URA M) (H : Heap 𝓤) (A : Atoms 𝓤) (W : Given 𝓤 H A) (𝓣 : Tables 𝓤 H) (known : Plain.Known 𝓤 H A W 𝓣 2 nanosleep.ps nanosleep.r nanosleep.Asked nanosleep.Learnt Symbol.name) (bs : List ℕ) where
   abbrev E : Env 𝓤 H
   E = EnvOf 𝓤 H (Kinds.tyR ours.r ∷ Enter.tysP ours.ps xs) bs
 
-  d13 : Typed 𝓤 H A 𝓣 E G13 return Δ at13
+  d13 : Typed 𝓤 H A 𝓣 E (G t13 (off ∷ off ∷ [])) return Δ at13
   d13 = t-return 𝓤 H A W 𝓣 E Δ tt
 
-  d12 : Typed 𝓤 H A 𝓣 E G12 return Δ at12
-  d12 = g-pre 𝓤 H A W 𝓣 E G12 G13 return Δ (pass T12 T13 s13) at13 (g-room 𝓤 H A W E G12 2 σ (Local.room-whole 𝓤 H A W R σ refl)) d13
+  d12 : Typed 𝓤 H A 𝓣 E (G t12 (off ∷ off ∷ [])) return Δ at12
+  d12 = g-pre 𝓤 H A W 𝓣 E (G t12 (off ∷ off ∷ [])) (G t13 (off ∷ off ∷ [])) return Δ (pass (T t12) (T t13) s13) at13 (g-room 𝓤 H A W E (G t12 (off ∷ off ∷ [])) 2 σ (Local.room-whole 𝓤 H A W R σ refl)) d13
 
-  d11 : Typed 𝓤 H A 𝓣 E G11 return Δ at11
-  d11 = g-pre 𝓤 H A W 𝓣 E G11 G12 return Δ (pass T11 T12 s12) at12 (g-room 𝓤 H A W E G11 1 σ (Local.room-whole 𝓤 H A W R σ refl)) d12
+  d11 : Typed 𝓤 H A 𝓣 E (G t11 (off ∷ off ∷ [])) return Δ at11
+  d11 = g-pre 𝓤 H A W 𝓣 E (G t11 (off ∷ off ∷ [])) (G t12 (off ∷ off ∷ [])) return Δ (pass (T t11) (T t12) s12) at12 (g-room 𝓤 H A W E (G t11 (off ∷ off ∷ [])) 1 σ (Local.room-whole 𝓤 H A W R σ refl)) d12
 
-  d4-back : Typed 𝓤 H A 𝓣 E G4 b5 Δ at4′
-  d4-back = s-seq 𝓤 H A W 𝓣 E G4 G11 c5 return Δ (pass T4 T11 s11) at11 (t-use 𝓤 H A W E 𝓣 G4 oUnit 0 (sc-here sUnit) tyUnit (valS sUnit) (sUnit .of) tt (room-gone 𝓤 H A tyUnit) (holds-sc 𝓤 H A W sUnit) refl (λ u. refl) (λ u. tt)) d11
+  d4-back : Typed 𝓤 H A 𝓣 E (G t4 (off ∷ off ∷ [])) b5 Δ at4′
+  d4-back = s-seq 𝓤 H A W 𝓣 E (G t4 (off ∷ off ∷ [])) (G t11 (off ∷ off ∷ [])) c5 return Δ (pass (T t4) (T t11) s11) at11 (t-use 𝓤 H A W E 𝓣 (G t4 (off ∷ off ∷ [])) oUnit 0 (sc-here sUnit) tyUnit (valS sUnit) (sUnit .of) tt (room-gone 𝓤 H A tyUnit) (holds-sc 𝓤 H A W sUnit) refl (λ u. refl) (λ u. tt)) d11
 
-  d4-dead : Typed 𝓤 H A 𝓣 E G4d b5 Δ at4′
-  d4-dead = g-pre 𝓤 H A W 𝓣 E G4d G4 b5 Δ (λ Ψ. Ψ) at4′ (g-forget 𝓤 H A W E G4d 1 dead refl) d4-back
+  d4-dead : Typed 𝓤 H A 𝓣 E (G t4 (off ∷ dead ∷ [])) b5 Δ at4′
+  d4-dead = g-pre 𝓤 H A W 𝓣 E (G t4 (off ∷ dead ∷ [])) (G t4 (off ∷ off ∷ [])) b5 Δ (λ Ψ. Ψ) at4′ (g-forget 𝓤 H A W E (G t4 (off ∷ dead ∷ [])) 1 dead refl) d4-back
 
-  d10-dead : Typed 𝓤 H A 𝓣 E G10d b5 Δ at10
-  d10-dead = g-pre 𝓤 H A W 𝓣 E G10d G4d b5 Δ (ask s10) at4′ (Local.g-back-sc 𝓤 H A W E G10d 5 2 1 R τm (whole R) (λ x. x) (λ x. x) (λ x. x) (as-is 𝓤 H A (mleft R τm)) (as-is 𝓤 H A (sc-owed R 1)) (Local.whole-mem 𝓤 H A W R) refl) d4-dead
+  d10-dead : Typed 𝓤 H A 𝓣 E (G t10 (off ∷ dead ∷ [])) b5 Δ at10
+  d10-dead = g-pre 𝓤 H A W 𝓣 E (G t10 (off ∷ dead ∷ [])) (G t4 (off ∷ dead ∷ [])) b5 Δ (ask s10) at4′ (Local.g-back-sc 𝓤 H A W E (G t10 (off ∷ dead ∷ [])) 5 2 1 R τm (whole R) (λ x. x) (λ x. x) (λ x. x) (as-is 𝓤 H A (mleft R τm)) (as-is 𝓤 H A (sc-owed R 1)) (Local.whole-mem 𝓤 H A W R) refl) d4-dead
 
-  d10-off : Typed 𝓤 H A 𝓣 E G10o b5 Δ at10
-  d10-off = g-pre 𝓤 H A W 𝓣 E G10o G10d b5 Δ (λ Ψ. Ψ) at10 (g-end 𝓤 H A W E G10o 1 refl) d10-dead
+  d10-off : Typed 𝓤 H A 𝓣 E (G t10 (off ∷ alive ∷ [])) b5 Δ at10
+  d10-off = g-pre 𝓤 H A W 𝓣 E (G t10 (off ∷ alive ∷ [])) (G t10 (off ∷ dead ∷ [])) b5 Δ (λ Ψ. Ψ) at10 (g-end 𝓤 H A W E (G t10 (off ∷ alive ∷ [])) 1 refl) d10-dead
 
-  d10 : Typed 𝓤 H A 𝓣 E G10 b5 Δ at10
-  d10 = g-pre 𝓤 H A W 𝓣 E G10 G10o b5 Δ (λ Ψ. Ψ) at10 (g-forget 𝓤 H A W E G10 0 dead refl) d10-off
+  d10 : Typed 𝓤 H A 𝓣 E (G t10 (dead ∷ alive ∷ [])) b5 Δ at10
+  d10 = g-pre 𝓤 H A W 𝓣 E (G t10 (dead ∷ alive ∷ [])) (G t10 (off ∷ alive ∷ [])) b5 Δ (λ Ψ. Ψ) at10 (g-forget 𝓤 H A W E (G t10 (dead ∷ alive ∷ [])) 0 dead refl) d10-off
 
-  d9-dead : Typed 𝓤 H A 𝓣 E G9d b5 Δ at9
-  d9-dead = g-pre 𝓤 H A W 𝓣 E G9d G10 b5 Δ (pass T9 T10 s9) at10 (Local.g-back-shr 𝓤 H A W E G9d 1 0 (whole R) R (λ x. x) (λ x. x) (as-is 𝓤 H A (sc-shr (whole R) R (λ x. x) 0)) (Local.home-of 𝓤 H A (whole R) R (λ x. x) (λ x. x) (Local.whole-mem 𝓤 H A W R) (λ x k. refl)) refl) d10
+  d9-dead : Typed 𝓤 H A 𝓣 E (G t9 (dead ∷ alive ∷ [])) b5 Δ at9
+  d9-dead = g-pre 𝓤 H A W 𝓣 E (G t9 (dead ∷ alive ∷ [])) (G t10 (dead ∷ alive ∷ [])) b5 Δ (pass (T t9) (T t10) s9) at10 (Local.g-back-shr 𝓤 H A W E (G t9 (dead ∷ alive ∷ [])) 1 0 (whole R) R (λ x. x) (λ x. x) (as-is 𝓤 H A (sc-shr (whole R) R (λ x. x) 0)) (Local.home-of 𝓤 H A (whole R) R (λ x. x) (λ x. x) (Local.whole-mem 𝓤 H A W R) (λ x k. refl)) refl) d10
 
-  d9 : Typed 𝓤 H A 𝓣 E G9 b5 Δ at9
-  d9 = g-pre 𝓤 H A W 𝓣 E G9 G9d b5 Δ (λ Ψ. Ψ) at9 (g-end 𝓤 H A W E G9 0 refl) d9-dead
+  d9 : Typed 𝓤 H A 𝓣 E (G t9 (alive ∷ alive ∷ [])) b5 Δ at9
+  d9 = g-pre 𝓤 H A W 𝓣 E (G t9 (alive ∷ alive ∷ [])) (G t9 (dead ∷ alive ∷ [])) b5 Δ (λ Ψ. Ψ) at9 (g-end 𝓤 H A W E (G t9 (alive ∷ alive ∷ [])) 0 refl) d9-dead
 
-  d8 : Typed 𝓤 H A 𝓣 E G8 b5 Δ at8
-  d8 = g-pre 𝓤 H A W 𝓣 E G8 G9 b5 Δ (pass T8 T9 s8) at9 (g-room 𝓤 H A W E G8 3 (tyInt w32) (room-sc 𝓤 H A W (sInt w32))) d9
+  d8 : Typed 𝓤 H A 𝓣 E (G t8 (alive ∷ alive ∷ [])) b5 Δ at8
+  d8 = g-pre 𝓤 H A W 𝓣 E (G t8 (alive ∷ alive ∷ [])) (G t9 (alive ∷ alive ∷ [])) b5 Δ (pass (T t8) (T t9) s8) at9 (g-room 𝓤 H A W E (G t8 (alive ∷ alive ∷ [])) 3 (tyInt w32) (room-sc 𝓤 H A W (sInt w32))) d9
 
-  d7 : Typed 𝓤 H A 𝓣 E G7 b5 Δ at7
-  d7 = g-pre 𝓤 H A W 𝓣 E G7 G8 b5 Δ (pass T7 T8 s7) at8 (Local.g-drop-sref 𝓤 H A W E G7 4 0 R τs (λ x. x) (as-is 𝓤 H A (sref R τs 0))) d8
+  d7 : Typed 𝓤 H A 𝓣 E (G t7 (alive ∷ alive ∷ [])) b5 Δ at7
+  d7 = g-pre 𝓤 H A W 𝓣 E (G t7 (alive ∷ alive ∷ [])) (G t8 (alive ∷ alive ∷ [])) b5 Δ (pass (T t7) (T t8) s7) at8 (Local.g-drop-sref 𝓤 H A W E (G t7 (alive ∷ alive ∷ [])) 4 0 R τs (λ x. x) (as-is 𝓤 H A (sref R τs 0))) d8
 
-  d6 : Typed 𝓤 H A 𝓣 E G6 b4 Δ at6
-  d6 = s-seq 𝓤 H A W 𝓣 E G6 G7 c4 b5 Δ (both s6) at7 (Plain.t-call-plain 𝓤 H A W 𝓣 2 nanosleep.ps nanosleep.r nanosleep.Asked nanosleep.Learnt Symbol.name known E (λ pos β. β) G6 (record { pos = 4; ty = τs; ref = λ x. x }, (record { pos = 5; ty = τm; ref = λ x. x }, tt)) 3 (0 ∷ 1 ∷ []) (Call.sub-id 𝓤 H A W (G6 .slots)) (spares-sref 𝓤 H A W R τs 0, reads-sref 𝓤 H A W R τs 0, refl, (as-is 𝓤 H A (mref R τm 1), reads-mref 𝓤 H A W R τm 1, refl, tt)) (room-gone 𝓤 H A (tyInt w32)) (tt, (tt, tt)) refl) d7
+  d6 : Typed 𝓤 H A 𝓣 E (G t6 (alive ∷ alive ∷ [])) b4 Δ at6
+  d6 = s-seq 𝓤 H A W 𝓣 E (G t6 (alive ∷ alive ∷ [])) (G t7 (alive ∷ alive ∷ [])) c4 b5 Δ (both s6) at7 (Plain.t-call-plain 𝓤 H A W 𝓣 2 nanosleep.ps nanosleep.r nanosleep.Asked nanosleep.Learnt Symbol.name known E (λ pos β. β) (G t6 (alive ∷ alive ∷ [])) (record { pos = 4; ty = τs; ref = λ x. x }, (record { pos = 5; ty = τm; ref = λ x. x }, tt)) 3 (0 ∷ 1 ∷ []) (Call.sub-id 𝓤 H A W ((G t6 (alive ∷ alive ∷ [])) .slots)) (spares-sref 𝓤 H A W R τs 0, reads-sref 𝓤 H A W R τs 0, refl, (as-is 𝓤 H A (mref R τm 1), reads-mref 𝓤 H A W R τm 1, refl, tt)) (room-gone 𝓤 H A (tyInt w32)) (tt, (tt, tt)) refl) d7
 
-  d5-alive : Typed 𝓤 H A 𝓣 E G5a b3 Δ at5
-  d5-alive = s-seq 𝓤 H A W 𝓣 E G5a G6 c3 b4 Δ (give s5) at6 (Local.t-sc-borrow 𝓤 H A W E 𝓣 G5a 2 5 1 R τm (λ x. x) (Local.mem-whole 𝓤 H A W R) (room-gone 𝓤 H A τm) refl (λ b o. tt)) d6
+  d5-alive : Typed 𝓤 H A 𝓣 E (G t5 (alive ∷ alive ∷ [])) b3 Δ at5
+  d5-alive = s-seq 𝓤 H A W 𝓣 E (G t5 (alive ∷ alive ∷ [])) (G t6 (alive ∷ alive ∷ [])) c3 b4 Δ (give s5) at6 (Local.t-sc-borrow 𝓤 H A W E 𝓣 (G t5 (alive ∷ alive ∷ [])) 2 5 1 R τm (λ x. x) (Local.mem-whole 𝓤 H A W R) (room-gone 𝓤 H A τm) refl (λ b o. tt)) d6
 
-  d5 : Typed 𝓤 H A 𝓣 E G5 b3 Δ at5
-  d5 = g-pre 𝓤 H A W 𝓣 E G5 G5a b3 Δ (λ Ψ. Ψ) at5 (g-begin 𝓤 H A W E G5 1 (tt, (tt, (tt, (tt, (tt, (tt, tt))))))) d5-alive
+  d5 : Typed 𝓤 H A 𝓣 E (G t5 (alive ∷ off ∷ [])) b3 Δ at5
+  d5 = g-pre 𝓤 H A W 𝓣 E (G t5 (alive ∷ off ∷ [])) (G t5 (alive ∷ alive ∷ [])) b3 Δ (λ Ψ. Ψ) at5 (g-begin 𝓤 H A W E (G t5 (alive ∷ off ∷ [])) 1 (tt, (tt, (tt, (tt, (tt, (tt, tt))))))) d5-alive
 
-  d4-alive : Typed 𝓤 H A 𝓣 E G4a b2 Δ at4
-  d4-alive = s-seq 𝓤 H A W 𝓣 E G4a G5 c2 b3 Δ (give s4) at5 (Local.t-sc-share 𝓤 H A W E 𝓣 G4a 1 4 0 R τs (λ x. x) (Local.mem-whole 𝓤 H A W R) (room-gone 𝓤 H A τs) refl (λ b o. tt)) d5
+  d4-alive : Typed 𝓤 H A 𝓣 E (G t4 (alive ∷ off ∷ [])) b2 Δ at4
+  d4-alive = s-seq 𝓤 H A W 𝓣 E (G t4 (alive ∷ off ∷ [])) (G t5 (alive ∷ off ∷ [])) c2 b3 Δ (give s4) at5 (Local.t-sc-share 𝓤 H A W E 𝓣 (G t4 (alive ∷ off ∷ [])) 1 4 0 R τs (λ x. x) (Local.mem-whole 𝓤 H A W R) (room-gone 𝓤 H A τs) refl (λ b o. tt)) d5
 
-  d4 : Typed 𝓤 H A 𝓣 E G4 b2 Δ at4
-  d4 = g-pre 𝓤 H A W 𝓣 E G4 G4a b2 Δ (λ Ψ. Ψ) at4 (g-begin 𝓤 H A W E G4 0 (tt, (tt, (tt, (tt, (tt, (tt, tt))))))) d4-alive
+  d4 : Typed 𝓤 H A 𝓣 E (G t4 (off ∷ off ∷ [])) b2 Δ at4
+  d4 = g-pre 𝓤 H A W 𝓣 E (G t4 (off ∷ off ∷ [])) (G t4 (alive ∷ off ∷ [])) b2 Δ (λ Ψ. Ψ) at4 (g-begin 𝓤 H A W E (G t4 (off ∷ off ∷ [])) 0 (tt, (tt, (tt, (tt, (tt, (tt, tt))))))) d4-alive
 
-  d3 : Typed 𝓤 H A 𝓣 E G3 b2 Δ at3
-  d3 = g-pre 𝓤 H A W 𝓣 E G3 G4 b2 Δ (pass T3 T4 s3) at4 (g-as-by 𝓤 H A W E (λ ρ. Unit {0}) G3 2 (whole R) (λ v. struct .make v tt) (told-none 𝓤 H A (G3 .slots)) (λ ρ told v b. folds 𝓤 H A the-type (struct .Ghost) (struct .make) (λ v′ g. refl) ρ v tt b)) d4
+  d3 : Typed 𝓤 H A 𝓣 E (G t3 (off ∷ off ∷ [])) b2 Δ at3
+  d3 = g-pre 𝓤 H A W 𝓣 E (G t3 (off ∷ off ∷ [])) (G t4 (off ∷ off ∷ [])) b2 Δ (pass (T t3) (T t4) s3) at4 (g-as-by 𝓤 H A W E (λ ρ. Unit {0}) (G t3 (off ∷ off ∷ [])) 2 (whole R) (λ v. struct .make v tt) (told-none 𝓤 H A ((G t3 (off ∷ off ∷ [])) .slots)) (λ ρ told v b. folds 𝓤 H A the-type (struct .Ghost) (struct .make) (λ v′ g. refl) ρ v tt b)) d4
 
-  d2 : Typed 𝓤 H A 𝓣 E G2 b1 Δ at2
-  d2 = s-seq 𝓤 H A W 𝓣 E G2 G3 c1 b2 Δ (pass T2 T3 s2) at3 (t-struct-make-wt 𝓤 H A W E 𝓣 (apartT the-type) the-laws the-plain G2 2 (oInt w64 0 ∷ oInt w64 0 ∷ []) (λ m. (toZ w64 0, (toZ w64 0, tt))) (room-gone 𝓤 H A σ) (tt, (tt, tt)) refl (λ m. made-val (apartT the-type) the-laws (vint w64 0 ∷ vint w64 0 ∷ []) (toZ w64 0, (toZ w64 0, tt)) (i64-made 0, (i64-made 0, tt))) (λ m. made-is (apartT the-type) the-laws (vint w64 0 ∷ vint w64 0 ∷ []) (toZ w64 0, (toZ w64 0, tt)) (i64-made 0, (i64-made 0, tt)))) d3
+  d2 : Typed 𝓤 H A 𝓣 E (G t2 (off ∷ off ∷ [])) b1 Δ at2
+  d2 = s-seq 𝓤 H A W 𝓣 E (G t2 (off ∷ off ∷ [])) (G t3 (off ∷ off ∷ [])) c1 b2 Δ (pass (T t2) (T t3) s2) at3 (t-struct-make-wt 𝓤 H A W E 𝓣 (apartT the-type) the-laws the-plain (G t2 (off ∷ off ∷ [])) 2 (oInt w64 0 ∷ oInt w64 0 ∷ []) (λ m. (toZ w64 0, (toZ w64 0, tt))) (room-gone 𝓤 H A σ) (tt, (tt, tt)) refl (λ m. made-val (apartT the-type) the-laws (vint w64 0 ∷ vint w64 0 ∷ []) (toZ w64 0, (toZ w64 0, tt)) (i64-made 0, (i64-made 0, tt))) (λ m. made-is (apartT the-type) the-laws (vint w64 0 ∷ vint w64 0 ∷ []) (toZ w64 0, (toZ w64 0, tt)) (i64-made 0, (i64-made 0, tt)))) d3
 
-  d1 : Typed 𝓤 H A 𝓣 E G1 b1 Δ at1
-  d1 = g-pre 𝓤 H A W 𝓣 E G1 G2 b1 Δ (pass T1 T2 s1) at2 (g-as-by 𝓤 H A W E (λ ρ. Unit {0}) G1 1 (whole R) (λ v. struct .make v tt) (told-none 𝓤 H A (G1 .slots)) (λ ρ told v b. folds 𝓤 H A the-type (struct .Ghost) (struct .make) (λ v′ g. refl) ρ v tt b)) d2
+  d1 : Typed 𝓤 H A 𝓣 E (G t1 (off ∷ off ∷ [])) b1 Δ at1
+  d1 = g-pre 𝓤 H A W 𝓣 E (G t1 (off ∷ off ∷ [])) (G t2 (off ∷ off ∷ [])) b1 Δ (pass (T t1) (T t2) s1) at2 (g-as-by 𝓤 H A W E (λ ρ. Unit {0}) (G t1 (off ∷ off ∷ [])) 1 (whole R) (λ v. struct .make v tt) (told-none 𝓤 H A ((G t1 (off ∷ off ∷ [])) .slots)) (λ ρ told v b. folds 𝓤 H A the-type (struct .Ghost) (struct .make) (λ v′ g. refl) ρ v tt b)) d2
 
-  d0 : Typed 𝓤 H A 𝓣 E G0 b0 Δ at0
-  d0 = s-seq 𝓤 H A W 𝓣 E G0 G1 c0 b1 Δ (pass T0 T1 s0) at1 (t-struct-make-wt 𝓤 H A W E 𝓣 (apartT the-type) the-laws the-plain G0 1 (oInt w64 0 ∷ oBig w64 1000000 ∷ []) (λ m. (toZ w64 0, (toZ w64 1000000, tt))) (room-gone 𝓤 H A σ) (tt, (record { lower = record { fits = Dec.lit< tt } }, tt)) refl (λ m. made-val (apartT the-type) the-laws (vint w64 0 ∷ vint w64 1000000 ∷ []) (toZ w64 0, (toZ w64 1000000, tt)) (i64-made 0, (i64-made 1000000, tt))) (λ m. made-is (apartT the-type) the-laws (vint w64 0 ∷ vint w64 1000000 ∷ []) (toZ w64 0, (toZ w64 1000000, tt)) (i64-made 0, (i64-made 1000000, tt)))) d1
+  d0 : Typed 𝓤 H A 𝓣 E (G t0 (off ∷ off ∷ [])) b0 Δ at0
+  d0 = s-seq 𝓤 H A W 𝓣 E (G t0 (off ∷ off ∷ [])) (G t1 (off ∷ off ∷ [])) c0 b1 Δ (pass (T t0) (T t1) s0) at1 (t-struct-make-wt 𝓤 H A W E 𝓣 (apartT the-type) the-laws the-plain (G t0 (off ∷ off ∷ [])) 1 (oInt w64 0 ∷ oBig w64 1000000 ∷ []) (λ m. (toZ w64 0, (toZ w64 1000000, tt))) (room-gone 𝓤 H A σ) (tt, (record { lower = record { fits = Dec.lit< tt } }, tt)) refl (λ m. made-val (apartT the-type) the-laws (vint w64 0 ∷ vint w64 1000000 ∷ []) (toZ w64 0, (toZ w64 1000000, tt)) (i64-made 0, (i64-made 1000000, tt))) (λ m. made-is (apartT the-type) the-laws (vint w64 0 ∷ vint w64 1000000 ∷ []) (toZ w64 0, (toZ w64 1000000, tt)) (i64-made 0, (i64-made 1000000, tt)))) d1
 
 asked : (κs : Lfts 0) (qs : Shares 0) (a : Kinds.Dens κs ours.ps) (good : Kinds.GoodsP κs ours.ps a) (pre : Reads.Pre κs a) (bs : List ℕ) → at0 (Any.wantQ 0 ours.ps ours.r xs 2 κs qs a (Reads.Post κs a)) (Function.init 0 ours.ps ours.r xs 2 κs qs a)
 asked κs qs a good pre bs = λ g g′. (λ κs′. tt, λ g″. (refl, (tt, tt)))
