@@ -1,5 +1,6 @@
 // The check of a table (document 01): from its bytes to look-ahead, kept values, store words, room and closing turns, or to the number
 // and the place of the refusal. It assumes nothing.
+#![tactic(auto)]
 ghost use Rattle.std.specs.Prelude.{◌≡◌, ℕ, ◌+◌, ◌-◌, ◌*◌, ◌<◌, length, get_or};
 ghost use Rattle.limits.specs.Limits.{most_streams, most_pairs};
 ghost use Rattle.basis.specs.Rows.{column};
@@ -15,7 +16,7 @@ use table::{Outcome, Scan};
 
 // What the check announces. Numbers are by stream, 0 past the last one; a refusal has its number and place, and zeros.
 #[repr(C)]
-#[derive(Drop)]
+#[derive(Clone, Copy)]
 pub struct Checked {
     pub number: u8,
     pub place: usize,
@@ -58,7 +59,7 @@ fn put_row(
 }
 
 // The weights of all edges: for each pair of streams the largest and the smallest, as `expression::scan_expr` notes them.
-#[derive(Drop)]
+#[derive(Clone, Copy)]
 struct Weights {
     rise: [u16; PAIRS_MOST],
     fall: [u16; PAIRS_MOST],

@@ -1,4 +1,5 @@
 // The text of rows and of closing turns, on lent slices (document 01, "The program"): the answers of the calls, as lines.
+#![tactic(auto)]
 ghost use Rattle.std.specs.Prelude.{◌≡◌, ◌+◌, ◌*◌, ◌≤◌, ◌<◌, length, take};
 ghost use Rattle.basis.specs.Written.{Wrote};
 ghost use Rattle.limits.specs.Limits.{most_streams};
@@ -14,14 +15,14 @@ use monitor::{Phase, Run};
 const TURNS_MOST: usize = 65536;
 
 // A run after a turn, and where its text ends.
-#[derive(Drop)]
+#[derive(Clone, Copy)]
 struct Turned {
     run: Run,
     at: usize,
 }
 
 // A run after some rows, the bytes that they took, and where their text ends.
-#[derive(Drop)]
+#[derive(Clone, Copy)]
 pub struct Fed {
     pub run: Run,
     pub rows: usize,
@@ -30,7 +31,7 @@ pub struct Fed {
 }
 
 // A run after some closing turns, and where their text ends.
-#[derive(Drop)]
+#[derive(Clone, Copy)]
 pub struct Drained {
     pub run: Run,
     pub turns: usize,

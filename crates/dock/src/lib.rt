@@ -1,6 +1,7 @@
 // The dock's entries (document 01, "A run"): the dock "holds one record and lends it to be changed; that entry gives what the by-value
 // call gives". They are called from C and Rust (include/glasspuddle.h). An entry of an open run writes back rows, closing turns done and phase:
 // no call changes the others (proofs/Keeping.antt). It assumes nothing.
+#![tactic(auto)]
 ghost use Rattle.std.specs.Prelude.{◌≡◌, []};
 ghost use Rattle.announce.specs.Announced.{announced};
 ghost use Rattle.announce.specs.Conditions.{Answers};
@@ -19,7 +20,7 @@ const OVER: u8 = 2;
 
 // The record as C lays it out: `monitor::Run` with its phase as a byte.
 #[repr(C)]
-#[derive(Drop)]
+#[derive(Clone, Copy)]
 pub struct Record {
     pub look: [u16; STREAMS_MOST],
     pub kept: [u16; STREAMS_MOST],
@@ -30,7 +31,7 @@ pub struct Record {
 
 // What an entry tells beside the record: the number and the place of a refusal or 0 and 0, and the bytes written.
 #[repr(C)]
-#[derive(Drop)]
+#[derive(Clone, Copy)]
 pub struct Told {
     pub number: u8,
     pub place: usize,
@@ -38,7 +39,7 @@ pub struct Told {
 }
 
 // What a call by value hands back: the record, and what is told.
-#[derive(Drop)]
+#[derive(Clone, Copy)]
 pub struct Reply {
     pub held: Record,
     pub told: Told,

@@ -1,5 +1,6 @@
 // The program on slices in memory (document 01, "The program"): how far it has come and the next bytes of its input in, its text and how
 // far it has come then out. Reads and writes are the program's.
+#![tactic(auto)]
 ghost use Rattle.std.specs.Prelude.{◌≡◌, false, List, ℕ, ◌+◌, ◌≤◌, ◌<◌, ◌^◌, length, take};
 ghost use Rattle.limits.specs.Limits.{most_table, most_streams, most_words};
 ghost use Rattle.records.specs.Kinds.{most_text};
@@ -21,7 +22,7 @@ const HEAD_BYTES: usize = 3;
 pub const PART_MOST: usize = 4 * limits::STREAMS_MOST;
 
 // What the bytes of the head say: the input stops in them, a refusal with its place, or the table's length.
-#[derive(Drop)]
+#[derive(Clone, Copy)]
 pub enum Head {
     Stopped,
     Refused(u8, usize),
@@ -30,7 +31,7 @@ pub enum Head {
 
 // What the program reads, and how many bytes of it it holds: the head; the table, whose length stands first; a row of the table of this
 // length. Refused in the head or the table, it reads no further.
-#[derive(Drop)]
+#[derive(Clone, Copy)]
 pub enum Stage {
     Head(usize),
     Table(usize, usize),
@@ -39,7 +40,7 @@ pub enum Stage {
 }
 
 // How far the program has come: its stage, the bytes read in all, and the run.
-#[derive(Drop)]
+#[derive(Clone, Copy)]
 pub struct State {
     pub stage: Stage,
     pub read: usize,
@@ -47,7 +48,7 @@ pub struct State {
 }
 
 // How far it has come, the bytes taken from the piece of input, and where the text ends.
-#[derive(Drop)]
+#[derive(Clone, Copy)]
 pub struct Advance {
     pub state: State,
     pub used: usize,
@@ -55,7 +56,7 @@ pub struct Advance {
 }
 
 // Behind the end of the input: whether all is printed, the table's length, and the run.
-#[derive(Drop)]
+#[derive(Clone, Copy)]
 pub struct Ending {
     pub over: bool,
     pub length: usize,
@@ -63,7 +64,7 @@ pub struct Ending {
 }
 
 // How far it has come then, and where the text ends.
-#[derive(Drop)]
+#[derive(Clone, Copy)]
 pub struct Ended {
     pub ending: Ending,
     pub at: usize,

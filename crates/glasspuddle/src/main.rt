@@ -1,5 +1,6 @@
 // The program (document 01, "The program"): it reads a piece of input, lets `feed` make text of it, and writes the text. A failed read or
 // write stops it, with a message and no further line.
+#![tactic(auto)]
 ghost use Rattle.std.specs.Prelude.{◌≡◌, true, List, ℕ, ◌+◌, ◌≤◌, ◌<◌, ◌^◌, length};
 ghost use Rattle.records.specs.Kinds.{most_text};
 ghost use Rattle.feed.specs.Stands.{reading, Lent, Standing};
@@ -11,7 +12,7 @@ use libc::{STDERR_FILENO, STDIN_FILENO, STDOUT_FILENO};
 const PIECE_MOST: usize = 65536;
 
 // How far the program has come, or that a read or a write failed.
-#[derive(Drop)]
+#[derive(Clone, Copy)]
 struct Went {
     fine: bool,
     state: State,

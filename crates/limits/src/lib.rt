@@ -1,5 +1,6 @@
 // Document 01's limits and refusal numbers, each once and by name. The definitions of `specs/` say the same for contracts;
 // include/glasspuddle.h says it for C and Rust, and tests/numbers.sh compares the three. It assumes nothing.
+#![tactic(auto)]
 
 // "table 1 to 4,096 bytes"
 pub const TABLE_LEAST: usize = 1;

@@ -1,5 +1,6 @@
 // A run (document 01, "A run"): its record and the calls open, row, close and drain, for every argument.
 // It assumes nothing.
+#![tactic(auto)]
 ghost use Rattle.std.specs.Prelude.{◌≡◌, ◌+◌, ◌≤◌, ◌<◌, length};
 ghost use Rattle.limits.specs.Limits.{most_streams};
 ghost use Rattle.limits.specs.Refusals.{foreign_record};
@@ -16,7 +17,7 @@ use node::{ENTRIES, KINDS_MOST};
 use prepare::Prepared;
 use store::{FRAME_ENTRIES, FRAME_ROWS};
 
-#[derive(Drop)]
+#[derive(Clone, Copy)]
 pub enum Phase {
     Reading,
     Draining,
@@ -24,7 +25,7 @@ pub enum Phase {
 }
 
 // The record: "each stream's look-ahead and kept number (0 past S), the rows taken, the phase and closing turns done".
-#[derive(Drop)]
+#[derive(Clone, Copy)]
 pub struct Run {
     pub look: [u16; STREAMS_MOST],
     pub kept: [u16; STREAMS_MOST],
@@ -34,14 +35,14 @@ pub struct Run {
 }
 
 // The number and the place of a refusal; number 0 where there is none.
-#[derive(Drop)]
+#[derive(Clone, Copy)]
 pub struct Fault {
     pub number: u8,
     pub place: usize,
 }
 
 // What a call hands back: the record, the number and the place of a refusal or 0 and 0, and the bytes written.
-#[derive(Drop)]
+#[derive(Clone, Copy)]
 pub struct Answer {
     pub run: Run,
     pub number: u8,
@@ -50,7 +51,7 @@ pub struct Answer {
 }
 
 // What came of a turn: the first fault, or none, the bytes written and the closing turns announced.
-#[derive(Drop)]
+#[derive(Clone, Copy)]
 struct Taken {
     fault: Fault,
     count: usize,

@@ -1,4 +1,5 @@
 // The constant table of kinds, and the expression node that stands at a place (document 01, "The table" and "Refusal numbers").
+#![tactic(auto)]
 ghost use Rattle.std.specs.Prelude.{◌≡◌, ◌+◌, ◌≤◌, ◌<◌, ◌^◌, length, get_or};
 ghost use Rattle.node.specs.Kinds.{rule_of, rest_of, many_kinds, results_for, Tabulated};
 ghost use Rattle.wire.specs.Bytes.{word_at};
@@ -236,7 +237,7 @@ pub const NOW_KIND: u8 = 0x13;
 pub const AT_KIND: u8 = 0x14;
 
 // An expression node.
-#[derive(Drop)]
+#[derive(Clone, Copy)]
 pub enum Node {
     // its type and its word
     Constant(u8, u32),

@@ -1,4 +1,5 @@
 // Sums over the streams' numbers, and whether numbers are 0 past the last stream (document 01, "What the check announces"). It assumes nothing.
+#![tactic(auto)]
 ghost use Rattle.std.specs.Prelude.{◌≡◌, ◌≤◌};
 ghost use Rattle.limits.specs.Limits.{most_streams};
 ghost use Rattle.basis.specs.Firsts.{of};
@@ -8,7 +9,7 @@ ghost use Rattle.numbers.specs.Past.{Decides, ZeroPast};
 use limits::STREAMS_MOST;
 
 // The sums that the check announces: store words, triggers (for the room), closing turns.
-#[derive(Drop)]
+#[derive(Clone, Copy)]
 pub struct Totals {
     pub words: usize,
     pub triggers: usize,

@@ -1,5 +1,6 @@
 // What a call prepares: the table's bytes tested against the record's numbers in one pass, and what a turn goes by (document 01, "A run").
 // It assumes nothing.
+#![tactic(auto)]
 ghost use Rattle.std.specs.Prelude.{◌≡◌, false};
 ghost use Rattle.prepare.specs.Preparing.{brief_by, CanPrepare, Preparing};
 
@@ -7,7 +8,7 @@ use limits::STREAMS_MOST;
 use node::{ENTRIES, KINDS_MOST};
 
 // The number of inputs and streams, and the announced sums; `ok` where the record's numbers are those of an accepted table.
-#[derive(Drop)]
+#[derive(Clone, Copy)]
 pub struct Prepared {
     pub ok: bool,
     pub inputs: usize,

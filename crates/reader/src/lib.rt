@@ -1,5 +1,6 @@
 // A table's text, read in one pass (request C-12): each piece of it is noted as the table has it, in a lent slice. The bytes of a text whose
 // table is longer than the slice are counted to the end. It assumes nothing.
+#![tactic(auto)]
 ghost use Rattle.std.specs.Prelude.{◌≡◌, [], ◌∷◌, ℕ, ◌+◌, ◌≤◌, ◌<◌, ◌^◌, length};
 ghost use Rattle.wire.specs.Bytes.{le4};
 ghost use Rattle.shapes.specs.Numbers.{number};
@@ -46,7 +47,7 @@ const HEAD_BYTES: usize = 4;
 const LINES_MOST: u8 = 255;
 
 // The place behind what was read and the place behind its bytes, or the place of the fault.
-#[derive(Drop)]
+#[derive(Clone, Copy)]
 pub enum Reached {
     Behind(usize, usize),
     Astray(usize),

@@ -1,5 +1,6 @@
 // Readers of a word, a number, an offset and eight hex digits at a place of a text (request C-12). Each answers what it read and the place
 // behind it, or the place where the text leaves what may stand there. It assumes nothing.
+#![tactic(auto)]
 ghost use Rattle.std.specs.Prelude.{◌≡◌, ℕ, ◌+◌, ◌≤◌, ◌<◌, length};
 ghost use Rattle.shapes.specs.Places.{byte_at};
 ghost use Rattle.source.specs.Words.{many_words, word_of};
@@ -36,7 +37,7 @@ fn common(text: &[u8], at: usize, words: &[[u8; WORD_BYTES]; WORDS_MOST], row: u
 }
 
 // A word of the table by its row and the place behind it, or the place of the fault.
-#[derive(Drop)]
+#[derive(Clone, Copy)]
 pub enum Named {
     Word(usize, usize),
     Nowhere(usize),
@@ -72,7 +73,7 @@ pub fn word_at(
 }
 
 // A number and the place behind the byte that follows it, or the place of the fault.
-#[derive(Drop)]
+#[derive(Clone, Copy)]
 pub enum Found {
     Number(u32, usize),
     Astray(usize),

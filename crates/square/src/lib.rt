@@ -1,5 +1,6 @@
 // The longest walks between all pairs of streams, held as a square while the check runs; what the check reads off it (document 01, "What
 // the check announces", and the place of refusal 7). A cell is a total, or NONE where there is no walk. Assumes nothing.
+#![tactic(auto)]
 ghost use Rattle.std.specs.Prelude.{◌≡◌, ℕ, ◌+◌, ◌<◌, ◌≤◌, get_or};
 ghost use Rattle.limits.specs.Limits.{most_streams};
 ghost use Rattle.basis.specs.Firsts.{firsts};
@@ -223,7 +224,7 @@ fn place_of_loop(a: [[i64; STREAMS_MOST]; STREAMS_MOST], s: usize) -> usize
 }
 
 // Accepted with the look-aheads (0 past the streams), or refused with the place of refusal 7.
-#[derive(Drop)]
+#[derive(Clone, Copy)]
 pub struct Verdict {
     pub ok: bool,
     pub place: usize,

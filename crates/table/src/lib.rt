@@ -1,5 +1,6 @@
 // The scan of a table: what stands before the first equation, one equation, the whole table (document 01, "The table"; refusals 1 to 6
 // and 9). `kinds` is the constant table by kind.
+#![tactic(auto)]
 ghost use Rattle.std.specs.Prelude.{◌≡◌, List, ℕ, ◌+◌, ◌-◌, ◌≤◌, ◌<◌, length, get_or, take, replicate};
 ghost use Rattle.limits.specs.Limits.{most_streams};
 ghost use Rattle.node.specs.Kinds.{rule_of, many_kinds, Tabulated};
@@ -166,7 +167,7 @@ fn role_at(table: &[u8], at: usize, side: u8) -> u8
 }
 
 // All that stands before the first equation, which starts at `place`; or, with zeros, the number and the place of a fault.
-#[derive(Drop)]
+#[derive(Clone, Copy)]
 pub struct Heading {
     pub number: u8,
     pub place: usize,
@@ -273,7 +274,7 @@ pub fn scan_equation(
 }
 
 // Equations, the place behind them and where their expressions start; or, with zeros, the number and the place of a fault.
-#[derive(Drop)]
+#[derive(Clone, Copy)]
 pub struct Solved {
     pub number: u8,
     pub place: usize,
@@ -318,7 +319,7 @@ fn scan_equations(
     }
 }
 
-#[derive(Drop)]
+#[derive(Clone, Copy)]
 pub enum Outcome {
     Accepted,
     Refused(u8, usize),
@@ -326,7 +327,7 @@ pub enum Outcome {
 
 // What a scan of a table gives: the inputs, the streams with their types and roles, where each output's expression starts; or, with
 // zeros, the refusal.
-#[derive(Drop)]
+#[derive(Clone, Copy)]
 pub struct Scan {
     pub outcome: Outcome,
     pub inputs: usize,

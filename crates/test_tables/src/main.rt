@@ -1,6 +1,7 @@
 // Checks tables, each given as a line of hex digits, and prints what the check announces (document 01, "What the check announces" and
 // "Refusal numbers"): `number place`, and where the table is accepted look-ahead, kept numbers, store words, room and closing turns.
 // A line that starts with `#` is a comment, and the line `-` is the empty table; one that says nothing is reported as malformed.
+#![tactic(auto)]
 ghost use Rattle.std.specs.Prelude.{true, ◌≡◌, ◌+◌, ◌*◌, ◌≤◌, ◌<◌, length, get_or, take};
 ghost use Rattle.test_tables.specs.Hex.{LineEnd, Within, said, said_of, digits_say, whole_of, bytes_said, pair_of, digit_for};
 ghost use Rattle.limits.specs.Limits.{most_streams};
@@ -10,7 +11,7 @@ use libc::{STDIN_FILENO, STDOUT_FILENO};
 use limits::STREAMS_MOST;
 
 // What a line says; a table has so many bytes.
-#[derive(Drop)]
+#[derive(Clone, Copy)]
 enum Line {
     Comment,
     Malformed,

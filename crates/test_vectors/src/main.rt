@@ -1,5 +1,6 @@
 // Runs published binary32 vectors (data/README) through the operators on levels (document 01, kinds
 // 2B to 2F), and says of each file how many lines agreed, and which did not.
+#![tactic(auto)]
 ghost use Rattle.std.specs.Prelude.{◌≡◌, ◌+◌, ◌*◌, ◌/◌, ◌^◌, ◌≤◌, length};
 ghost use Rattle.level.specs.Level.{one_nan_of};
 ghost use Rattle.test_vectors.specs.Vectors.{outcome_of, agrees_of, agreed_of, line_of, vector_of, parted_of, result_of, word_at, half_of, digit_for};
@@ -13,7 +14,7 @@ const LEVEL_LINE: usize = 27;
 const FLAG_LINE: usize = 20;
 
 // What a line says: two operands and a result.
-#[derive(Drop)]
+#[derive(Clone, Copy)]
 enum Line {
     Vector(u32, u32, u32),
     Malformed,

@@ -1,5 +1,6 @@
 // A record's numbers vouched for against the table's bytes in one pass over them, without the square of longest walks (document 01, "Every call
 // tests the table first", refusal 10). It assumes nothing.
+#![tactic(auto)]
 ghost use Rattle.std.specs.Prelude.{◌≡◌, false, ◌-◌, length, take};
 ghost use Rattle.basis.specs.Firsts.{of};
 ghost use Rattle.node.specs.Kinds.{Tabulated};
@@ -65,7 +66,7 @@ fn judge(
 
 // Whether the record's numbers are vouched for, and how many streams the table has; the rest that a call needs of the table is in arrays that the caller
 // lends, since an array that is written entry by entry and then returned is copied before the writes have settled.
-#[derive(Drop)]
+#[derive(Clone, Copy)]
 pub struct Found {
     pub ok: bool,
     pub inputs: usize,

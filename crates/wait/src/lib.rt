@@ -1,4 +1,6 @@
 // Waiting without being busy.
+#![tactic(auto)]
+
 use libc::types::timespec;
 
 // A thousandth of a second, in nanoseconds.

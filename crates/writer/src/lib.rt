@@ -1,5 +1,6 @@
 // The text of a table, written from its bytes (request C-12): how long it is, and its bytes put into a lent slice. It is for the bytes of
 // every table as it is written (`Legible`); that an accepted table's are such is the caller's to know.
+#![tactic(auto)]
 ghost use Rattle.std.specs.Prelude.{◌≡◌, ℕ, ◌+◌, ◌≤◌, ◌<◌, length};
 ghost use Rattle.lines.specs.Lines.{decimal};
 ghost use Rattle.limits.specs.Limits.{most_table};
@@ -157,7 +158,7 @@ fn put_body(table: &[u8], kind: u8, at: usize, text: &mut [u8], place: usize) ->
 }
 
 // Where a node's bytes end, and where its text does.
-#[derive(Drop)]
+#[derive(Clone, Copy)]
 pub struct Ends {
     pub at: usize,
     pub place: usize,
