@@ -1,0 +1,15 @@
+-- `row_of`: the first v numbers are those of the row y.
+-- Assumes nothing.
+use mathlib.Core.Path.{refl}
+use Prim.Native.Nat.{◌-◌, ◌≤◌}
+use native.Mathlib.Omega.{arith}
+use borrow.Author.Rules.{rules}
+use Rattle.limits.specs.Limits.{most_streams}
+use Rattle.announce.proofs.Rows.{RowTaken, none_taken, one_taken}
+use Rattle.announce.proofs.row_of.Given as goal
+
+abbrev pub invariant-loop-v : goal.invariant-loop-v
+invariant-loop-v l = (l.v ≤ most_streams) × RowTaken l.all l.y l.v l.row
+
+abbrev pub decreases-loop-v : goal.decreases-loop-v
+decreases-loop-v l = most_streams - l.v

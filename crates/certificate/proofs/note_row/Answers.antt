@@ -1,0 +1,32 @@
+-- `note_row`: up to v, the tally holds the row's edges to streams below v beside those noted before, and what was seen of them is forgotten.
+-- Assumes nothing.
+use mathlib.Core.List.{List}
+use Prim.Native.Nat.{◌-◌, ◌≤◌}
+use native.Mathlib.Omega.{arith}
+use borrow.Author.Rules.{rules}
+use Rattle.basis.specs.Firsts.{of}
+use Rattle.basis.specs.Edges.{Edge, Among}
+use Rattle.certificate.specs.Forgotten.{rises, falls, Forgotten}
+use Rattle.certificate.specs.Tally.{Row, Tally, Upto}
+use Rattle.certificate.proofs.Forgetting.{forgotten_start, forgotten_on, forgotten_end, rise_left, fall_left}
+use Rattle.certificate.proofs.Tally.{row_start, row_end}
+use Rattle.certificate.proofs.note_row.Goals as goal
+
+pub loop-v-init : goal.loop-v-init
+loop-v-init c = (search rules, (λ rs es x. row_start rs es), forgotten_start c.requires.2)
+
+pub loop-v-preserved : goal.loop-v-preserved
+loop-v-preserved c = let f = c.loop-v.invariant.2 in
+    let e = rw c.if-note_cell.true at c.note_cell.ensures in (
+      search rules,
+      (λ rs es x t. e.0 c.args.s _ _ (search rules) (rise_left f) (fall_left f) rs es x (c.loop-v.invariant.1 rs es x t)),
+      rw e.1 (forgotten_on f (search rules)),
+    )
+
+pub returns-else-note_cell : goal.returns-else-note_cell
+returns-else-note_cell c = let f = c.loop-v.invariant.2 in
+    let e = rw c.if-note_cell.false at c.note_cell.ensures in
+    e.0 c.args.s _ _ (search rules) (rise_left f) (fall_left f)
+
+pub returns : goal.returns
+returns c = ((λ rs es x t. row_end rs es x (search rules) (c.loop-v.invariant.1 rs es x t)), forgotten_end (omega arith) c.loop-v.invariant.2)

@@ -1,0 +1,14 @@
+-- `ordered`: the first n streams of the line stand.
+-- Assumes nothing.
+use Prim.Native.Nat.{◌-◌}
+use native.Mathlib.Omega.{arith}
+use borrow.Author.Rules.{rules}
+use Rattle.certificate.proofs.Mask.{full}
+use Rattle.certificate.proofs.Line.{Way, way_start, way_step, way_end, way_stuck}
+use Rattle.certificate.proofs.ordered.Given as goal
+
+abbrev pub invariant-loop-n : goal.invariant-loop-n
+invariant-loop-n l = Way l.tight l.s l.n l.rest l.order
+
+abbrev pub decreases-loop-n : goal.decreases-loop-n
+decreases-loop-n l = l.s - l.n

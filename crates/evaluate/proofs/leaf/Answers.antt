@@ -1,0 +1,41 @@
+-- `evaluate::leaf` meets its contract: each arm of the match gives the node.
+-- Assumes nothing.
+use borrow.Author.Rules.{rules}
+use mathlib.Core.Path.{ap, ◌∙◌}
+use Prim.Native.Nat.{ℕ, ◌+◌}
+use native.Mathlib.Omega.{arith}
+use mir.Facts.{to_z-of_z}
+use Rattle.node.proofs.Standing.{body_found}
+use Rattle.evaluate.proofs.Heads.{standing_at}
+use Rattle.evaluate.proofs.Leaves.{now_findable, at_referable, constant_gives, now_gives, at_gives, operator_never}
+use Rattle.evaluate.proofs.leaf.Goals as goal
+
+pub bounds-bytes-at : goal.bounds-bytes-at
+bounds-bytes-at c = (standing_at c.requires.readable).inside
+
+pub overflow_add-start : goal.overflow_add-start
+overflow_add-start c = omega (arith, (standing_at c.requires.readable).inside, c.well_formed)
+
+pub node_of-node-requires : goal.node_of-node-requires
+node_of-node-requires c = (standing_at c.requires.readable).body
+
+pub overflow_add-next : goal.overflow_add-next
+overflow_add-next c = omega (arith, body_found _ _ _ c.byte_size.ensures.0 c.leaf_body.ensures c.node_of-node.ensures c.requires.leaf, (standing_at c.requires.readable).body, c.well_formed)
+
+pub read-requires : goal.read-requires
+read-requires c = rw c.byte_size-in-Now.ensures.0 (now_findable c.requires.readable c.node_of-node.ensures c.node-in-Now-1.given.1)
+
+pub referred-requires : goal.referred-requires
+referred-requires c = rw (c.byte_size-in-At.ensures.0, to_z-of_z (record { sfits = c.known_told-in-At-1.given.1.0.1 })) (at_referable c.requires.readable c.node_of-node.ensures c.node-in-At-1.given.1)
+
+pub returns-in-Constant : goal.returns-in-Constant
+returns-in-Constant c = λ l x. c.valued.ensures ∙ constant_gives x c.node_of-node.ensures c.args.store.now (ap (λ (k : ℕ). c.args.at + 1 + k) (body_found _ _ _ c.byte_size.ensures.0 c.leaf_body.ensures c.node_of-node.ensures c.requires.leaf)) c.node-1.given.1 c.reading.ensures
+
+pub returns-in-Now : goal.returns-in-Now
+returns-in-Now c = λ l x. c.valued-in-Now.ensures ∙ now_gives x c.node_of-node.ensures c.args.store.now (ap (λ (k : ℕ). c.args.at + 1 + k) (body_found _ _ _ c.byte_size.ensures.0 c.leaf_body.ensures c.node_of-node.ensures c.requires.leaf)) c.node-in-Now-1.given.1 (rw c.byte_size-in-Now.ensures.0 at c.read.ensures)
+
+pub returns-in-At : goal.returns-in-At
+returns-in-At c = λ l x. c.valued-in-At.ensures ∙ at_gives x c.node_of-node.ensures c.args.store.now (ap (λ (k : ℕ). c.args.at + 1 + k) (body_found _ _ _ c.byte_size.ensures.0 c.leaf_body.ensures c.node_of-node.ensures c.requires.leaf)) c.node-in-At-1.given.1 (rw (c.byte_size-in-At.ensures.0, to_z-of_z (record { sfits = c.known_told-in-At-1.given.1.0.1 })) at c.referred.ensures)
+
+pub returns-in-Operator : goal.returns-in-Operator
+returns-in-Operator c = λ l x. c.valued-in-Operator.ensures ∙ operator_never x c.node_of-node.ensures c.args.store.now (ap (λ (k : ℕ). c.args.at + 1 + k) (body_found _ _ _ c.byte_size.ensures.0 c.leaf_body.ensures c.node_of-node.ensures c.requires.leaf)) c.requires.leaf c.enum_told-1.given.1

@@ -1,0 +1,8 @@
+-- `note`: both notes raised.
+-- Assumes nothing.
+use Rattle.expression.proofs.Noting.{noted_both}
+use borrow.Author.Rules.{rules}
+use Rattle.expression.proofs.note.Goals as goal
+
+pub returns : goal.returns
+returns c = noted_both c.raise.ensures c.raise-2.ensures

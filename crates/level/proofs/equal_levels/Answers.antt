@@ -1,0 +1,9 @@
+-- `level::equal_levels` meets its contract.
+-- Assumes nothing.
+use mathlib.Core.Path.{ap₂}
+use lib.Dec.{eqb}
+use borrow.Author.Rules.{rules}
+use Rattle.level.proofs.equal_levels.Goals as goal
+
+pub returns : goal.returns
+returns c = ap₂ eqb c.image_of.ensures c.image_of-2.ensures

@@ -1,0 +1,21 @@
+-- `without_operands`, by the node's case.
+-- Assumes nothing.
+use borrow.Author.Rules.{rules}
+use Rattle.node.specs.Node.{is_leaf_of}
+use Rattle.node.proofs.without_operands.Goals as goal
+
+pub returns-in-Constant : goal.returns-in-Constant
+unfolding is_leaf_of
+returns-in-Constant c = rw c.enum_told-1.given.1
+
+pub returns-in-Now : goal.returns-in-Now
+unfolding is_leaf_of
+returns-in-Now c = rw c.enum_told-in-Now-1.given.1
+
+pub returns-in-At : goal.returns-in-At
+unfolding is_leaf_of
+returns-in-At c = rw c.enum_told-in-At-1.given.1
+
+pub returns-in-Operator : goal.returns-in-Operator
+unfolding is_leaf_of
+returns-in-Operator c = rw c.enum_told-in-Operator-1.given.1

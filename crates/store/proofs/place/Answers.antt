@@ -1,0 +1,16 @@
+-- `store::place` meets its contract: the slot is as far past the lap as the position, or a whole lap less.
+-- Assumes nothing.
+use mathlib.Core.Path.{refl}
+use mathlib.Core.Logic.{⊎_elim}
+use borrow.Author.Rules.{rules}
+use Rattle.store.proofs.Places.{place_in_lem, place_past, place_small}
+use Rattle.store.proofs.place.Goals as goal
+
+pub overflow_sub-far : goal.overflow_sub-far
+overflow_sub-far c = c.requires.near.0
+
+pub overflow_add-result : goal.overflow_add-result
+overflow_add-result c = place_small c.requires (⊎_elim (λ w. place_in_lem _ _ _ refl w.slot-is w.if-far-n.true) (λ w. place_past _ _ _ refl w.slot-is w.if-far-n.false) c.if-far-n.branch-raw)
+
+pub returns : goal.returns
+returns c = ⊎_elim (λ w. place_in_lem _ _ _ refl w.slot-is w.if-far-n.true) (λ w. place_past _ _ _ refl w.slot-is w.if-far-n.false) c.if-far-n.branch-raw

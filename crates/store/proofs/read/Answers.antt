@@ -1,0 +1,15 @@
+-- `store::read` meets its contract: the word read lies in the store.
+-- Assumes nothing.
+use native.Mathlib.Omega.{arith}
+use borrow.Author.Rules.{rules}
+use Rattle.store.proofs.Places.{place_inside}
+use Rattle.store.proofs.read.Goals as goal
+
+pub offset_bounds-store-place : goal.offset_bounds-store-place
+offset_bounds-store-place c = omega (arith, place_inside c.requires c.place.ensures, c.well_formed)
+
+pub bounds-store-place : goal.bounds-store-place
+bounds-store-place c = place_inside c.requires c.place.ensures
+
+pub returns : goal.returns
+returns c = rw (← c.place.ensures) c.reading.ensures
