@@ -27,7 +27,7 @@ loop-i-preserved c = let s = c.before.before.before.before in let l = c.loop-i i
   search rules,
   search rules,
   put_more (λ (m : ℕ) (z : ℤ). best z ≡ sup_to (λ (x : ℕ). plus (cell s.args.a m x) (at s.args.line x)) s.args.s) NO l.out l.i (to_z w64 (of_z w64 c.longest_on.result)) (search rules) l.invariant.2
-      (ap best (to_z-of_z (record { sfits = c.longest_on.type_inv })) ∙ c.longest_on.ensures),
+      (ap best (to_z-of_z {w = w64} (record { sfits = c.longest_on.type_inv })) ∙ c.longest_on.ensures),
 )
 
 pub returns : goal.returns

@@ -40,7 +40,7 @@ pub loop-m-preserved : goal.loop-m-preserved
 loop-m-preserved c = let s = c.before.before.before.before.before in let l = c.loop-m in (
   search rules,
   more (λ (x : ℕ). plus (at s.args.row x) (at s.args.line x)) (best (to_z w64 l.most-bits)) _ l.m l.invariant.1
-      (ap best (to_z-of_z (record { sfits = c.relaxed-next.type_inv })) ∙ c.relaxed-next.ensures ∙ ap₂ (λ (x y : ℤ). relax_b (best (to_z w64 l.most-bits)) (best x) (best y)) (row_is c.before) (line_is c.before)),
+      (ap best (to_z-of_z {w = w64} (record { sfits = c.relaxed-next.type_inv })) ∙ c.relaxed-next.ensures ∙ ap₂ (λ (x y : ℤ). relax_b (best (to_z w64 l.most-bits)) (best x) (best y)) (row_is c.before) (line_is c.before)),
 )
 
 pub returns : goal.returns

@@ -14,13 +14,9 @@ use Rattle.limits.specs.Limits.{most_streams}
 use Rattle.walks.specs.Longest.{relax_b}
 use Rattle.square.specs.Square.{NO, best, at, cell}
 use Rattle.basis.proofs.Firsts.{put_more}
-use Rattle.square.proofs.Rows.{cell_is}
+use Rattle.square.proofs.Rows.{Row, cell_is}
 use Rattle.square.proofs.relax.Goals as goal
 use Rattle.square.proofs.relax.Goals.{After-relax_row-arg-in-loop-i-1}
-
--- row m of the new square is `row`
-abbrev Row : List (List ℤ) → ℕ → ℕ → List ℤ → Type 0
-Row d k m row = (j : ℕ) → j < most_streams → at row j ≡ relax_b (cell d m j) (cell d m k) (cell d k j)
 
 -- what d[i][k] gives
 left_is : (c : After-relax_row-arg-in-loop-i-1) → to_z w64 (of_z w64 (get_or (get_or c.args.d c.loop-i.i []) c.args.k (pos 0))) ≡ get_or (get_or c.args.d c.loop-i.i []) c.args.k NO

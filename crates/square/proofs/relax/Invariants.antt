@@ -14,7 +14,7 @@ use Rattle.limits.specs.Limits.{most_streams}
 use Rattle.walks.specs.Longest.{relax_b}
 use Rattle.square.specs.Square.{NO, best, at, cell}
 use Rattle.basis.proofs.Firsts.{put_more}
-use Rattle.square.proofs.Rows.{cell_is}
+use Rattle.square.proofs.Rows.{Row}
 use Rattle.square.proofs.relax.Given as goal
 
 abbrev pub invariant-loop-i : goal.invariant-loop-i

@@ -19,10 +19,10 @@ use Rattle.square.proofs.relax_row.Goals.{After-relaxed-arg-in-loop-j-1}
 
 -- what the second read of the turn gives
 via_is : (c : After-relaxed-arg-in-loop-j-1) → to_z w64 (of_z w64 (get_or c.args.via c.loop-j.j (pos 0))) ≡ get_or c.args.via c.loop-j.j NO
-via_is c = to_z-of_z (record { sfits = c.relaxed-arg-in-loop-j-1.given }) ∙ get_d_any c.args.via c.loop-j.j (pos 0) NO (search rules)
+via_is c = to_z-of_z {w = w64} (record { sfits = c.relaxed-arg-in-loop-j-1.given }) ∙ get_d_any c.args.via c.loop-j.j (pos 0) NO (search rules)
 
 row_is : (c : After-relaxed-arg-in-loop-j-1) → to_z w64 (of_z w64 (get_or c.args.row c.loop-j.j (pos 0))) ≡ get_or c.args.row c.loop-j.j NO
-row_is c = to_z-of_z (record { sfits = c.relaxed-arg-1.given }) ∙ get_d_any c.args.row c.loop-j.j (pos 0) NO (search rules)
+row_is c = to_z-of_z {w = w64} (record { sfits = c.relaxed-arg-1.given }) ∙ get_d_any c.args.row c.loop-j.j (pos 0) NO (search rules)
 
 pub loop-j-init : goal.loop-j-init
 loop-j-init c = (search rules, search rules, λ i h. absurd (not-suc-le-zero h))
@@ -36,7 +36,7 @@ loop-j-preserved c = let s = c.before.before.before.before.before in let l = c.l
   search rules,
   search rules,
   put_more (λ (i : ℕ) (z : ℤ). best z ≡ relax_b (at s.args.row i) (best (to_z w64 (of_z w64 s.args.left))) (at s.args.via i)) NO l.out l.j (to_z w64 (of_z w64 c.relaxed.result))
-      (search rules) l.invariant.2 (ap best (to_z-of_z (record { sfits = c.relaxed.type_inv })) ∙ c.relaxed.ensures ∙ ap₂ (λ (x y : ℤ). relax_b (best x) (best (to_z w64 (of_z w64 s.args.left))) (best y)) (row_is c.before) (via_is c.before)),
+      (search rules) l.invariant.2 (ap best (to_z-of_z {w = w64} (record { sfits = c.relaxed.type_inv })) ∙ c.relaxed.ensures ∙ ap₂ (λ (x y : ℤ). relax_b (best x) (best (to_z w64 (of_z w64 s.args.left))) (best y)) (row_is c.before) (via_is c.before)),
 )
 
 pub returns : goal.returns

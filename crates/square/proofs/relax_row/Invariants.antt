@@ -17,7 +17,7 @@ use Rattle.basis.proofs.Firsts.{get_d_any, put_more}
 use Rattle.square.proofs.relax_row.Given as goal
 
 abbrev pub invariant-loop-j : goal.invariant-loop-j
-invariant-loop-j l = (l.j ≤ most_streams) × (length l.out ≡ most_streams) × ((i : ℕ) → i < l.j → at l.out i ≡ relax_b (at l.row i) (best (to_z w64 l.left)) (at l.via i))
+invariant-loop-j l = (l.j ≤ most_streams) × (length l.out ≡ most_streams) × ((i : ℕ) → i < l.j → at l.out i ≡ relax_b (at l.row i) (best l.left) (at l.via i))
 
 abbrev pub decreases-loop-j : goal.decreases-loop-j
 decreases-loop-j l = most_streams - l.j

@@ -23,7 +23,7 @@ loop-j-preserved c = let s = c.before.before.before.before in let l = c.loop-j i
   search rules,
   search rules,
   put_more (λ (i : ℕ) (z : ℤ). best z ≡ rise_best (get_or s.args.rise.now i 0)) NO l.out l.j (to_z w64 (of_z w64 c.weight_of.result)) (search rules) l.invariant.2
-      (ap best (to_z-of_z (record { sfits = c.weight_of.type_inv })) ∙ c.weight_of.ensures),
+      (ap best (to_z-of_z {w = w64} (record { sfits = c.weight_of.type_inv })) ∙ c.weight_of.ensures),
 )
 
 pub returns : goal.returns
