@@ -2,16 +2,15 @@
 -- Assumes nothing.
 use mathlib.Core.Path.{◌≡◌, ap}
 use mathlib.Core.List.{[]}
-use Prim.Native.Nat.{ℕ, ◌≤◌, ◌<◌, ◌-◌}
+use Prim.Native.Nat.{ℕ}
 use native.Mathlib.Omega.{arith}
 use native.Mathlib.Nat.{not-suc-le-zero}
 use borrow.Author.Rules.{rules}
-use lib.ListN.{length, get_or}
+use lib.ListN.{get_or}
 use lib.IntN.{ℤ, pos}
 use mir.Syntax.{w64}
 use mir.Val.{to_z, of_z}
-use Rattle.limits.specs.Limits.{most_streams}
-use Rattle.square.specs.Square.{NO, best, at, cell}
+use Rattle.square.specs.Square.{NO, best, cell}
 use Rattle.basis.proofs.Firsts.{put_more}
 use Rattle.square.proofs.Rows.{cell_is}
 use Rattle.square.proofs.edges_into.Goals as goal

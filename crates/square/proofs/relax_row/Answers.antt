@@ -1,16 +1,15 @@
 -- `relax_row` meets its contract. Invariant: the entries passed are relaxed. Measure: the entries left.
 -- Assumes nothing.
 use mathlib.Core.Path.{◌≡◌, ap, ap₂, ◌∙◌}
-use Prim.Native.Nat.{ℕ, ◌≤◌, ◌<◌, ◌-◌}
+use Prim.Native.Nat.{ℕ}
 use native.Mathlib.Omega.{arith}
 use native.Mathlib.Nat.{not-suc-le-zero}
 use borrow.Author.Rules.{rules}
-use lib.ListN.{length, get_or}
+use lib.ListN.{get_or}
 use lib.IntN.{ℤ, pos}
 use mir.Syntax.{w64}
 use mir.Val.{to_z, of_z}
 use mir.Facts.{to_z-of_z}
-use Rattle.limits.specs.Limits.{most_streams}
 use Rattle.walks.specs.Longest.{relax_b}
 use Rattle.square.specs.Square.{NO, best, at}
 use Rattle.basis.proofs.Firsts.{get_d_any, put_more}
