@@ -23,7 +23,7 @@ loop-i-preserved c = let s = c.before.before.before in let l = c.loop-i in (
   search rules,
   search rules,
   put_more (λ (m : ℕ) (z : ℤ). best z ≡ cell s.args.a m s.args.v) NO l.out l.i (to_z w64 (of_z w64 (get_or (get_or s.args.a l.i []) s.args.v (pos 0)))) (search rules) l.invariant.2
-      (ap best (cell_is s.args.a _ l.i s.args.v s.well_formed.0 c.out-1.given (omega arith) (omega arith))),
+      (ap best (cell_is s.args.a _ l.i s.args.v s.well_formed.0 (search rules) (omega arith) (omega arith))),
 )
 
 pub returns : goal.returns
