@@ -1,11 +1,14 @@
 // Runs published binary32 vectors (data/README) through the operators on levels (document 01, kinds
 // 2B to 2F), and says of each file how many lines agreed, and which did not.
 #![tactic(auto)]
+
 ghost use Rattle.std.specs.Prelude.{◌≡◌, ◌+◌, ◌*◌, ◌/◌, ◌^◌, ◌≤◌, length};
 ghost use Rattle.level.specs.Level.{one_nan_of};
 ghost use Rattle.test_vectors.specs.Vectors.{outcome_of, agrees_of, agreed_of, line_of, vector_of, parted_of, result_of, word_at, half_of, digit_for};
 
-use libc::STDOUT_FILENO;
+use std::io::Read;
+use std::rt::Files;
+use std::{fs, io};
 
 // The bytes of a line: two operands and a result of eight digits each, a space between, and the
 // line's end. The result of a comparison is one digit.
@@ -20,27 +23,25 @@ enum Line {
     Malformed,
 }
 
-fn main() {
-    run(b"f32_add.txt", b"add", 0x2b, LEVEL_LINE);
-    run(b"f32_sub.txt", b"sub", 0x2c, LEVEL_LINE);
-    run(b"f32_mul.txt", b"mul", 0x2d, LEVEL_LINE);
-    run(b"f32_div.txt", b"div", 0x2e, LEVEL_LINE);
-    run(b"f32_lt_quiet.txt", b"less", 0x2f, FLAG_LINE);
+fn main(rt: HostRuntime) -> io::Result<()> {
+    run(&rt, "f32_add.txt", "add", 0x2b, LEVEL_LINE)?;
+    run(&rt, "f32_sub.txt", "sub", 0x2c, LEVEL_LINE)?;
+    run(&rt, "f32_mul.txt", "mul", 0x2d, LEVEL_LINE)?;
+    run(&rt, "f32_div.txt", "div", 0x2e, LEVEL_LINE)?;
+    run(&rt, "f32_lt_quiet.txt", "less", 0x2f, FLAG_LINE)
 }
 
-fn run(path: &[u8], name: &[u8], kind: u8, size: usize)
+fn run(rt: &(impl Files + Print), path: &str, name: &str, kind: u8, size: usize) -> io::Result<()>
     requires { 1 ≤ size }
 {
-    let fd = os::open_read(path);
-    if fd < 0 {
-        say(name);
-        say(b" has no file\n");
-        return;
-    }
     let mut text = space();
-    let n = io::read_full(fd, &mut text);
-    libc::close(fd);
-    report(name, kind, size, &text[..n]);
+    match fs::open(rt, path) {
+        Ok(mut file) => {
+            let n = read_full(&mut file, &mut text)?;
+            report(rt, name, kind, size, &text[..n])
+        }
+        Err(_) => println!(rt; "{name} has no file"),
+    }
 }
 
 // Zeros, more than a file has bytes. The `ensures` gives the length, which lending a part needs.
@@ -50,25 +51,48 @@ fn space() -> [u8; 163840]
     [0; 163840]
 }
 
-fn report(name: &[u8], kind: u8, size: usize, text: &[u8])
+// Reads until the bytes lent are full or the file ends, and answers how many bytes it read.
+fn read_full(file: &mut impl Read, text: &mut [u8]) -> io::Result<usize>
+    ensures { IfOk result (λ n. n ≤ length text.new) }
+{
+    let mut done: usize = 0;
+    while done < text.len() {
+        let n = file.read(&mut text[done..])?;
+        if n == 0 {
+            return Ok(done);
+        }
+        done += n;
+    }
+    Ok(done)
+}
+
+fn report(rt: &impl Print, name: &str, kind: u8, size: usize, text: &[u8]) -> io::Result<()>
     requires { 1 ≤ size }
 {
-    let agreed = count_agreed(name, kind, size, text);
+    say_refuted(rt, name, kind, size, text)?;
+    let agreed = count_agreed(kind, size, text);
     let lines = text.len() / size;
-    say(name);
-    say(b" ");
-    io::print_decimal(STDOUT_FILENO, agreed);
-    say(b" of ");
-    io::print_decimal(STDOUT_FILENO, lines as u64);
-    say(b" agreed\n");
+    println!(rt; "{name} {agreed} of {lines} agreed")?;
     if text.len() % size != 0 {
-        say(name);
-        say(b" stops inside a line\n");
+        println!(rt; "{name} stops inside a line")?;
     }
+    Ok(())
+}
+
+// Writes out each line that does not agree.
+fn say_refuted(rt: &impl Print, name: &str, kind: u8, size: usize, text: &[u8]) -> io::Result<()>
+    requires { 1 ≤ size }
+{
+    for line in text.chunks_exact(size) {
+        if !agrees(kind, line) {
+            say_line(rt, name, kind, line)?;
+        }
+    }
+    Ok(())
 }
 
 // How many lines of a text agree.
-fn count_agreed(name: &[u8], kind: u8, size: usize, text: &[u8]) -> u64
+fn count_agreed(kind: u8, size: usize, text: &[u8]) -> u64
     requires { 1 ≤ size }
     ensures { result ≡ agreed_of kind size text.now (length text.now / size) }
 {
@@ -78,7 +102,7 @@ fn count_agreed(name: &[u8], kind: u8, size: usize, text: &[u8]) -> u64
     while i < lines {
         let at = i * size;
         let end = at + size;
-        if agrees(name, kind, &text[at..end]) {
+        if agrees(kind, &text[at..end]) {
             agreed += 1;
         }
         i += 1;
@@ -86,25 +110,13 @@ fn count_agreed(name: &[u8], kind: u8, size: usize, text: &[u8]) -> u64
     agreed
 }
 
-// Whether a line's result is what the operator gives. Where it is not, or the line says nothing,
-// the line is written out.
-fn agrees(name: &[u8], kind: u8, line: &[u8]) -> bool
+// Whether a line's result is what the operator gives; a line that says nothing does not agree.
+fn agrees(kind: u8, line: &[u8]) -> bool
     ensures { result ≡ agrees_of kind (line_of line.now) }
 {
-    let parsed = parse(line);
-    match parsed {
-        Line::Vector(a, b, r) => {
-            let gave = outcome(kind, a, b);
-            let told = one_nan(r);
-            if gave != told {
-                say_differs(name, gave, line);
-            }
-            gave == told
-        }
-        Line::Malformed => {
-            say_malformed(name, line);
-            false
-        }
+    match parse(line) {
+        Line::Vector(a, b, r) => outcome(kind, a, b) == one_nan(r),
+        Line::Malformed => false,
     }
 }
 
@@ -129,22 +141,22 @@ fn one_nan(w: u32) -> u32
     }
 }
 
-fn say_differs(name: &[u8], gave: u32, line: &[u8]) {
-    say(name);
-    say(b" gave ");
-    io::print_hex(STDOUT_FILENO, gave as u64, 8);
-    say(b" for: ");
-    say(line);
+// Writes out a line that does not agree, with what the operator gives for it.
+fn say_line(rt: &impl Print, name: &str, kind: u8, line: &[u8]) -> io::Result<()> {
+    match parse(line) {
+        Line::Vector(a, b, _) => say_differs(rt, name, outcome(kind, a, b), line),
+        Line::Malformed => say_malformed(rt, name, line),
+    }
 }
 
-fn say_malformed(name: &[u8], line: &[u8]) {
-    say(name);
-    say(b" malformed: ");
-    say(line);
+fn say_differs(rt: &impl Print, name: &str, gave: u32, line: &[u8]) -> io::Result<()> {
+    print!(rt; "{name} gave {gave:08x} for: ")?;
+    rt.write_all(line)
 }
 
-fn say(text: &[u8]) {
-    io::write_all(STDOUT_FILENO, text);
+fn say_malformed(rt: &impl Print, name: &str, line: &[u8]) -> io::Result<()> {
+    print!(rt; "{name} malformed: ")?;
+    rt.write_all(line)
 }
 
 fn parse(line: &[u8]) -> Line
