@@ -2,7 +2,7 @@
 // 2B to 2F), and says of each file how many lines agreed, and which did not.
 #![tactic(auto)]
 
-ghost use Rattle.std.specs.Prelude.{◌≡◌, ◌+◌, ◌*◌, ◌/◌, ◌^◌, ◌≤◌, length};
+ghost use Rattle.std.specs.Prelude.{◌≡◌, ◌+◌, ◌*◌, ◌/◌, ◌^◌, ◌≤◌, length, IfOk};
 ghost use Rattle.level.specs.Level.{one_nan_of};
 ghost use Rattle.test_vectors.specs.Vectors.{outcome_of, agrees_of, agreed_of, line_of, vector_of, parted_of, result_of, word_at, half_of, digit_for};
 
