@@ -93,6 +93,7 @@ fn answer_line(rt: &impl Print, line: &[u8]) -> io::Result<()> {
 }
 
 // What a line says; its table is put in front of the bytes lent.
+#[tactic(auto, unfolding(crate::specs::Hex::said_of))]
 fn read_line(line: &[u8], table: &mut [u8]) -> Line
     ensures table_after { said result table.new ≡ said_of (length table.old) line.now }
     ensures within { Within result table.new }
@@ -115,6 +116,7 @@ fn read_line(line: &[u8], table: &mut [u8]) -> Line
 }
 
 // The table that pairs of digits give.
+#[tactic(auto, unfolding(crate::specs::Hex::digits_say))]
 fn read_digits(line: &[u8], table: &mut [u8]) -> Line
     ensures table_after { said result table.new ≡ digits_say (length table.old) line.now }
     ensures within { Within result table.new }
@@ -134,6 +136,7 @@ fn read_digits(line: &[u8], table: &mut [u8]) -> Line
 }
 
 // Whether each of the first `n` pairs is a byte, and where it is so these bytes.
+#[tactic(auto, unfolding(crate::specs::Hex::whole_of, crate::specs::Hex::bytes_said))]
 fn put_bytes(line: &[u8], n: usize, table: &mut [u8]) -> bool
     requires { (2 * n ≤ length line.now) × (n ≤ length table.old) }
     ensures value { result ≡ whole_of line.now n }
@@ -152,6 +155,7 @@ fn put_bytes(line: &[u8], n: usize, table: &mut [u8]) -> bool
 }
 
 // The number of the `i`-th pair of digits.
+#[tactic(auto, unfolding(crate::specs::Hex::pair_of))]
 fn pair_at(line: &[u8], i: usize) -> u16
     requires { 2 * i + 1 < length line.now }
     ensures { result ≡ pair_of line.now i }
@@ -162,6 +166,7 @@ fn pair_at(line: &[u8], i: usize) -> u16
 }
 
 // The number of a digit; 256 for a byte that is none, so that no number with one is a byte's.
+#[tactic(auto, unfolding(crate::specs::Hex::digit_for))]
 fn digit(b: u8) -> u16
     ensures { (result ≡ digit_for b) × (result ≤ 256) }
 {
