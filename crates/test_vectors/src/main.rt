@@ -92,6 +92,7 @@ fn say_refuted(rt: &impl Print, name: &str, kind: u8, size: usize, text: &[u8]) 
 }
 
 // How many lines of a text agree.
+#[tactic(auto, unfolding(crate::specs::Vectors::agreed_of))]
 fn count_agreed(kind: u8, size: usize, text: &[u8]) -> u64
     requires { 1 ≤ size }
     ensures { result ≡ agreed_of kind size text.now (length text.now / size) }
@@ -159,6 +160,7 @@ fn say_malformed(rt: &impl Print, name: &str, line: &[u8]) -> io::Result<()> {
     rt.write_all(line)
 }
 
+#[tactic(auto, unfolding(crate::specs::Vectors::line_of))]
 fn parse(line: &[u8]) -> Line
     ensures { result ≡ line_of line.now }
 {
@@ -175,6 +177,7 @@ fn parse(line: &[u8]) -> Line
 }
 
 // Three numbers are a vector where each is a word.
+#[tactic(auto, unfolding(crate::specs::Vectors::vector_of))]
 fn vector(a: u64, b: u64, c: u64) -> Line
     ensures { result ≡ vector_of a b c }
 {
@@ -191,6 +194,7 @@ fn vector(a: u64, b: u64, c: u64) -> Line
 }
 
 // Whether a space follows each operand, and the line's end stands last.
+#[tactic(auto, unfolding(crate::specs::Vectors::parted_of))]
 fn parted(line: &[u8]) -> bool
     requires { 20 ≤ length line.now }
     ensures { result ≡ parted_of line.now }
@@ -206,6 +210,7 @@ fn parted(line: &[u8]) -> bool
 }
 
 // The result that the line gives: a level's word, or a flag's digit in the shorter line.
+#[tactic(auto, unfolding(crate::specs::Vectors::result_of))]
 fn result_of(line: &[u8]) -> u64
     requires { 20 ≤ length line.now }
     ensures { result ≡ result_of line.now }
@@ -218,6 +223,7 @@ fn result_of(line: &[u8]) -> u64
 }
 
 // The number of eight digits.
+#[tactic(auto, unfolding(crate::specs::Vectors::word_at))]
 fn word_at(s: &[u8], at: usize) -> u64
     requires { at + 8 ≤ length s.now }
     ensures { result ≡ word_at s.now at }
@@ -228,6 +234,7 @@ fn word_at(s: &[u8], at: usize) -> u64
 }
 
 // The number of four digits.
+#[tactic(auto, unfolding(crate::specs::Vectors::half_of))]
 fn half(s: &[u8], at: usize) -> u64
     requires { at + 4 ≤ length s.now }
     ensures value { result ≡ half_of s.now at }
@@ -241,6 +248,7 @@ fn half(s: &[u8], at: usize) -> u64
 }
 
 // The number of a digit. A byte that is none counts 2^32, so that no number with one is a word.
+#[tactic(auto, unfolding(crate::specs::Vectors::digit_for))]
 fn digit(b: u8) -> u64
     ensures value { result ≡ digit_for b }
     ensures upper_bound { result ≤ 2 ^ 32 }
