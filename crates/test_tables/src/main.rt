@@ -4,6 +4,7 @@
 #![tactic(auto)]
 
 ghost use Rattle.std.specs.Prelude.{true, ◌≡◌, ◌+◌, ◌*◌, ◌≤◌, ◌<◌, length, get_or, take, IfOk};
+ghost use Rattle.std.specs.Io.KnownBytes.{Consumes, IsAtEnd};
 ghost use Rattle.test_tables.specs.Hex.{LineEnd, Within, said, said_of, digits_say, whole_of, bytes_said, pair_of, digit_for};
 ghost use Rattle.limits.specs.Limits.{most_streams};
 
@@ -38,8 +39,10 @@ fn space() -> [u8; 262144]
 }
 
 // Reads until the bytes lent are full or the input ends, and answers how many bytes it read.
-fn read_full(input: &mut impl Read, text: &mut [u8]) -> io::Result<usize>
-    ensures { IfOk result (λ n. n ≤ length text.new) }
+fn read_full<I: Read>(input: &mut I, text: &mut [u8]) -> io::Result<usize>
+    ensures fits { IfOk result (λ n. n ≤ length text.new) }
+    ensures read { IfOk result (λ n. Consumes (I.remaining input.old) (I.remaining input.new) (take n text.new)) }
+    ensures whole { IfOk result (λ n. n < length text.new → IsAtEnd (I.remaining input.new)) }
 {
     let mut done: usize = 0;
     while done < text.len() {
@@ -238,7 +241,7 @@ fn say_numbers(
 
 fn say_malformed(rt: &impl Print, line: &[u8]) -> io::Result<()> {
     rt.print("malformed: ")?;
-    rt.write_all(line)?;
+    say(rt, line)?;
     println!(rt)
 }
 
@@ -249,4 +252,8 @@ fn say_number(rt: &impl Print, name: &str, x: u64) -> io::Result<()> {
 
 fn say_spaced(rt: &impl Print, x: u64) -> io::Result<()> {
     print!(rt; " {x}")
+}
+
+fn say(rt: &impl Print, text: &[u8]) -> io::Result<()> {
+    rt.write_all(text)
 }

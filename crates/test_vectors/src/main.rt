@@ -2,7 +2,8 @@
 // 2B to 2F), and says of each file how many lines agreed, and which did not.
 #![tactic(auto)]
 
-ghost use Rattle.std.specs.Prelude.{◌≡◌, ◌+◌, ◌*◌, ◌/◌, ◌^◌, ◌≤◌, length, IfOk};
+ghost use Rattle.std.specs.Prelude.{◌≡◌, ◌+◌, ◌*◌, ◌/◌, ◌^◌, ◌≤◌, ◌<◌, length, take, IfOk};
+ghost use Rattle.std.specs.Io.KnownBytes.{Consumes, IsAtEnd};
 ghost use Rattle.level.specs.Level.{one_nan_of};
 ghost use Rattle.test_vectors.specs.Vectors.{outcome_of, agrees_of, agreed_of, line_of, vector_of, parted_of, result_of, word_at, half_of, digit_for};
 
@@ -51,13 +52,15 @@ fn space() -> [u8; 163840]
     [0; 163840]
 }
 
-// Reads until the bytes lent are full or the file ends, and answers how many bytes it read.
-fn read_full(file: &mut impl Read, text: &mut [u8]) -> io::Result<usize>
-    ensures { IfOk result (λ n. n ≤ length text.new) }
+// Reads until the bytes lent are full or the input ends, and answers how many bytes it read.
+fn read_full<I: Read>(input: &mut I, text: &mut [u8]) -> io::Result<usize>
+    ensures fits { IfOk result (λ n. n ≤ length text.new) }
+    ensures read { IfOk result (λ n. Consumes (I.remaining input.old) (I.remaining input.new) (take n text.new)) }
+    ensures whole { IfOk result (λ n. n < length text.new → IsAtEnd (I.remaining input.new)) }
 {
     let mut done: usize = 0;
     while done < text.len() {
-        let n = file.read(&mut text[done..])?;
+        let n = input.read(&mut text[done..])?;
         if n == 0 {
             return Ok(done);
         }
@@ -152,12 +155,16 @@ fn say_line(rt: &impl Print, name: &str, kind: u8, line: &[u8]) -> io::Result<()
 
 fn say_differs(rt: &impl Print, name: &str, gave: u32, line: &[u8]) -> io::Result<()> {
     print!(rt; "{name} gave {gave:08x} for: ")?;
-    rt.write_all(line)
+    say(rt, line)
 }
 
 fn say_malformed(rt: &impl Print, name: &str, line: &[u8]) -> io::Result<()> {
     print!(rt; "{name} malformed: ")?;
-    rt.write_all(line)
+    say(rt, line)
+}
+
+fn say(rt: &impl Print, text: &[u8]) -> io::Result<()> {
+    rt.write_all(text)
 }
 
 #[tactic(auto, unfolding(crate::specs::Vectors::line_of))]
