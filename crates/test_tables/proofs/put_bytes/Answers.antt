@@ -1,4 +1,4 @@
-use Rattle.std.proofs.Common.{arith, subst, ◌<◌, ℕ}
+use Rattle.std.proofs.Common.{arith}
 use Rattle.test_tables.proofs.Hex.{not_a_byte}
 use Rattle.test_tables.proofs.put_bytes.Goals as goal
 

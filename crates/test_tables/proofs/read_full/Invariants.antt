@@ -1,5 +1,5 @@
 -- What was read stands in front. The measure is the room left.
-use Rattle.std.proofs.Common.{◌≡◌, ◌-◌, ◌≤◌, length, take}
+use Rattle.std.proofs.Common.{◌-◌, ◌≤◌, length, take}
 use Rattle.std.specs.Io.KnownBytes.{Consumes}
 use Rattle.test_tables.proofs.read_full.Given as goal
 
