@@ -1,5 +1,6 @@
 // The constant table of kinds, and the expression node that stands at a place (document 01, "The table" and "Refusal numbers").
 #![tactic(auto)]
+
 ghost use Rattle.std.specs.Prelude.{◌≡◌, ◌+◌, ◌≤◌, ◌<◌, ◌^◌, length, get_or};
 ghost use Rattle.node.specs.Kinds.{rule_of, rest_of, many_kinds, results_for, Tabulated};
 ghost use Rattle.wire.specs.Bytes.{word_at};

@@ -1,6 +1,7 @@
 // Stream values: flags, words and levels, their 32-bit images, and the operators on them (document
 // 01, "Values" and the kinds 20 to 2F of "The table").
 #![tactic(auto)]
+
 ghost use Rattle.std.specs.Prelude.{◌≡◌, ◌&&◌, ◌||◌};
 ghost use Rattle.std.specs.Bool.{beq};
 ghost use Rattle.value.specs.Words.{sub_words_of, ahead_of};

@@ -1,10 +1,8 @@
 -- `is_leaf`: by the node that is read.
 -- Assumes nothing.
 use mathlib.Core.Path.{ap, ◌∙◌}
-use borrow.Author.Rules.{rules}
 use Rattle.node.specs.Node.{is_leaf_of}
 use Rattle.node.proofs.is_leaf.Goals as goal
 
--- src/lib.rt:402:1
 pub returns : goal.returns
 returns c = c.without_operands.ensures ∙ ap is_leaf_of c.node_of.ensures

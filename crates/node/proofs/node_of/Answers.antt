@@ -3,7 +3,8 @@
 use mathlib.Core.Path.{◌≡◌, refl, ap, ◌∙◌}
 use Prim.Native.Nat.{ℕ}
 use native.Mathlib.Omega.{arith}
-use borrow.Author.Rules.{rules, sfits_of}
+use borrow.Author.Rules.{sfits_of}
+use mir.Syntax.{w8}
 use mir.Facts.{to_z-of_z}
 use Rattle.node.specs.Kinds.{rule_of, rows, look}
 use Rattle.node.specs.declared.Node.TheVariants.{Constant}
@@ -55,7 +56,7 @@ pub returns-then-kind-eq-NOW_KIND : goal.returns-then-kind-eq-NOW_KIND
 returns-then-kind-eq-NOW_KIND c = is_19 _ _ _ c.if-kind-eq-NOW_KIND.true
 
 pub returns-then-kind-eq-AT_KIND : goal.returns-then-kind-eq-AT_KIND
-returns-then-kind-eq-AT_KIND c = is_20 _ _ _ c.if-kind-eq-AT_KIND.true refl (to_z-of_z (sfits_of c.signed_of.type_inv) ∙ c.signed_of.ensures) c.word_at-then-kind-eq-AT_KIND.ensures
+returns-then-kind-eq-AT_KIND c = is_20 _ _ _ c.if-kind-eq-AT_KIND.true refl (to_z-of_z {w = w8} (sfits_of c.signed_of.type_inv) ∙ c.signed_of.ensures) c.word_at-then-kind-eq-AT_KIND.ensures
 
 pub returns-else-kind-eq-AT_KIND : goal.returns-else-kind-eq-AT_KIND
 returns-else-kind-eq-AT_KIND c = is_other _ _ _ c.if-kind-eq-FLAG_KIND.false c.if-kind-eq-WORD_KIND.false c.if-kind-eq-LEVEL_KIND.false c.if-kind-eq-NOW_KIND.false c.if-kind-eq-AT_KIND.false

@@ -3,7 +3,6 @@
 use mathlib.Core.List.{List}
 use mathlib.Core.Path.{ap}
 use Prim.Native.Nat.{ℕ}
-use borrow.Author.Rules.{rules}
 use lib.ListN.{get_or}
 use Rattle.node.specs.Kinds.{entries_of}
 use Rattle.node.proofs.operand_of.Goals as goal

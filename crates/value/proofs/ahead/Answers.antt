@@ -1,6 +1,6 @@
 -- `value::ahead` meets its contract: the two tests are those of the definition, on what sub_words gave.
 -- Assumes nothing.
-use Rattle.std.proofs.Common.{ℕ, ◌^◌, ◌<◌, Bool, ◌&&◌, ltb, sym, ap, ◌∙◌, arith, rules, lt-ltb}
+use Rattle.std.proofs.Common.{ℕ, ◌^◌, ◌<◌, Bool, ◌&&◌, ltb, sym, ap, ◌∙◌, arith, lt-ltb}
 use Rattle.value.proofs.ahead.Goals as goal
 
 within : ℕ → Bool
