@@ -1,6 +1,7 @@
 // Kept numbers from the look-aheads and the smallest weights (document 01, "What the check announces").
 // It assumes nothing.
 #![tactic(auto)]
+
 ghost use Rattle.std.specs.Prelude.{◌≡◌, ◌<◌, ◌≤◌};
 ghost use Rattle.limits.specs.Limits.{most_streams};
 ghost use Rattle.kept.specs.Kept.{Looks, Falls, slack_at_of, kept_over, kept_row};

@@ -8,7 +8,7 @@ use mathlib.Core.Logic.{◌⊎◌, inl, inr}
 use lib.ListN.{length, get_or, drop, replicate, length-append, length-drop, length-replicate}
 use native.Mathlib.Omega.{arith}
 use borrow.Author.Tests.{ltb-false, lt-ltb, le-leb}
-use lib.Dec.{T, ltb}
+use lib.Dec.{ltb}
 use native.Mathlib.Nat.{eq-zero-or-pos, mod-lt}
 use lib.Seq.{get_or-append_seam, drop_at, append_snoc}
 use Rattle.basis.proofs.Tests.{true_and, true_false}

@@ -1,6 +1,6 @@
 -- The square of numbers as the code holds it, and what its functions answer, cell by cell (document 01, "How to write each place": the square).
 -- Assumes nothing.
-use Rattle.std.specs.Prelude.{true, false, cond, List, [], ℕ, zero, suc, ◌-◌, ◌^◌, ◌<◌, eqb, get_or, replicate, ℤ, pos, negsuc, ◌-ℤ◌}
+use Rattle.std.specs.Prelude.{true, false, cond, List, [], ℕ, zero, suc, ◌^◌, ◌<◌, eqb, get_or, replicate, ℤ, pos, negsuc, ◌-ℤ◌}
 use Rattle.std.specs.Int.Signed.{mag}
 use Rattle.limits.specs.Limits.{most_streams, rise_of_zero}
 use Rattle.basis.specs.Firsts.{firsts}

@@ -1,6 +1,7 @@
 // The longest walks between all pairs of streams, held as a square while the check runs; what the check reads off it (document 01, "What
 // the check announces", and the place of refusal 7). A cell is a total, or NONE where there is no walk. Assumes nothing.
 #![tactic(auto)]
+
 ghost use Rattle.std.specs.Prelude.{◌≡◌, ℕ, ◌+◌, ◌<◌, ◌≤◌, get_or};
 ghost use Rattle.limits.specs.Limits.{most_streams};
 ghost use Rattle.basis.specs.Firsts.{firsts};

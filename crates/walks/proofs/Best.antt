@@ -69,6 +69,8 @@ pub covers_self : {b : Best} {d : ℤ} → b ≡ some d → Covers b d
 covers_self {b} {d} e = subst (λ (x : Best). Covers x d) (sym e) (covers (le_from_parts d d (omega arith)))
 
 pub plus_some : (a b : Best) (t : ℤ) → Covers (plus a b) t → (x : ℤ) × (y : ℤ) × (a ≡ some x) × (b ≡ some y) × (t ≤ℤ (x +ℤ y))
+plus_some none b t h = elim h [ ]
+plus_some (some x) none t h = elim h [ ]
 plus_some (some x) (some y) t (covers h) = (x, y, refl, refl, h)
 
 pick_is : (a b t : ℤ) → (max_z a b ≡ a) ⊎ (max_z a b ≡ b) → some (max_z a b) ≡ some t → (some a ≡ some t) ⊎ (some b ≡ some t)

@@ -40,6 +40,7 @@ p9_not_formed = record { n = 1; v = 1; walk = step (here refl refl refl) (step (
 -- P7 has none, and a cycle of positive weight
 walk_p7 : {n i j : ℕ} {t : ℤ} → Walk (Among edges_p7) n i j t → t ≡ pos n
 walk_p7 stay = refl
+walk_p7 (step (later h) w) = elim h [ ]
 walk_p7 (step (here p q r) w) = rw (← r, walk_p7 w) (ap pos (omega arith))
 
 pub p7_formed : ClosedWalk (Among edges_p7) (pos 0) → ⊥
@@ -53,6 +54,7 @@ p7_not_bounded = record { closed = record { n = 0; v = 1; walk = step (here refl
 within_p10 : Within (Among edges_p10) 3
 within_p10 y v k (here p q r) = (omega arith, omega arith)
 within_p10 y v k (later (here p q r)) = (omega arith, omega arith)
+within_p10 y v k (later (later h)) = elim h [ ]
 
 below_p10 : LoopsBelow (Among edges_p10)
 unfolding loops_below_of all_below through square_for only

@@ -1,8 +1,7 @@
 -- `kept::kept_at` meets its contract. Invariant: `most` is the largest slack over the streams passed. Measure: the streams left.
 -- Assumes nothing.
-use mathlib.Core.Path.{◌≡◌, refl}
-use mathlib.Core.Logic.{⊎_elim}
-use Prim.Native.Nat.{ℕ, ◌+◌, ◌*◌, ◌≤◌, ◌-◌}
+use mathlib.Core.Path.{refl}
+use Prim.Native.Nat.{ℕ, ◌+◌, ◌*◌, ◌≤◌}
 use native.Mathlib.Omega.{arith}
 use borrow.Author.Rules.{rules}
 use lib.ListN.{get_or}
@@ -10,7 +9,7 @@ use Rattle.limits.specs.Limits.{most_streams, most_note, most_look}
 use Rattle.kept.specs.Kept.{slack_over}
 use Rattle.kept.proofs.Slack.{slack_over_most, slack_over_more, kept_over_is}
 use Rattle.kept.proofs.kept_at.Goals as goal
-use Rattle.kept.proofs.kept_at.Goals.{After-loop-y}
+use Rattle.kept.proofs.kept_at.Goals.{After-loop-y, then-most-slack, else-most-slack}
 
 -- at the loop's end
 most_small : (c : After-loop-y) → c.loop-y.most ≤ (most_look + most_note)
@@ -23,7 +22,7 @@ loop-y-init c = (search rules, refl)
 
 pub loop-y-preserved : goal.loop-y-preserved
 loop-y-preserved c = let l = c.loop-y in
-    (search rules, slack_over_more _ _ _ l.y l.invariant.1 c.slack_at-slack.ensures (⊎_elim (λ w. omega (arith, w.most-is, w.if-most-slack.true)) (λ w. omega (arith, w.most-is, w.if-most-slack.false)) c.if-most-slack.branch-raw))
+    (search rules, slack_over_more _ _ _ l.y l.invariant.1 c.slack_at-slack.ensures (elim c.if-most-slack.branch [ then-most-slack w ↦ omega arith | else-most-slack w ↦ omega arith ]))
 
 pub overflow_add-result : goal.overflow_add-result
 overflow_add-result c = let b = most_small c in omega arith

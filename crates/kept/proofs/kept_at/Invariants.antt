@@ -1,14 +1,10 @@
 -- `kept::kept_at` meets its contract. Invariant: `most` is the largest slack over the streams passed. Measure: the streams left.
 -- Assumes nothing.
-use mathlib.Core.Path.{◌≡◌, refl}
-use mathlib.Core.Logic.{⊎_elim}
+use mathlib.Core.Path.{◌≡◌}
 use Prim.Native.Nat.{ℕ, ◌+◌, ◌*◌, ◌≤◌, ◌-◌}
-use native.Mathlib.Omega.{arith}
-use borrow.Author.Rules.{rules}
 use lib.ListN.{get_or}
-use Rattle.limits.specs.Limits.{most_streams, most_note, most_look}
+use Rattle.limits.specs.Limits.{most_streams}
 use Rattle.kept.specs.Kept.{slack_over}
-use Rattle.kept.proofs.Slack.{slack_over_most, slack_over_more, kept_over_is}
 use Rattle.kept.proofs.kept_at.Given as goal
 
 abbrev pub invariant-loop-y : goal.invariant-loop-y

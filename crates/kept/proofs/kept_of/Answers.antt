@@ -2,14 +2,14 @@
 -- Assumes nothing.
 use mathlib.Core.Path.{◌≡◌, subst}
 use mathlib.Core.Bool.{cond}
-use Prim.Native.Nat.{ℕ, ◌≤◌, ◌-◌}
+use Prim.Native.Nat.{ℕ}
 use native.Mathlib.Omega.{arith}
 use borrow.Author.Rules.{rules}
 use lib.Dec.{ltb}
 use Rattle.limits.specs.Limits.{most_streams}
 use Rattle.basis.specs.Firsts.{firsts}
 use Rattle.kept.specs.Kept.{kept_over, kept_row}
-use Rattle.basis.proofs.Firsts.{Filled, filled_none, filled_more, filled_all}
+use Rattle.basis.proofs.Firsts.{filled_none, filled_more, filled_all}
 use Rattle.kept.proofs.kept_of.Goals as goal
 
 pub loop-v-init : goal.loop-v-init

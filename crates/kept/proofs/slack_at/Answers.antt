@@ -2,7 +2,6 @@
 -- Assumes nothing.
 use mathlib.Core.Path.{sym, ◌∙◌}
 use native.Mathlib.Omega.{arith}
-use borrow.Author.Rules.{rules}
 use Rattle.kept.proofs.Slack.{slack_there}
 use Rattle.kept.proofs.slack_at.Goals as goal
 

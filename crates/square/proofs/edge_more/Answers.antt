@@ -1,16 +1,14 @@
 -- `edge_more` meets its contract. Invariant: the totals passed have one edge more. Measure: the totals left.
 -- Assumes nothing.
 use mathlib.Core.Path.{◌≡◌, ap, ◌∙◌}
-use Prim.Native.Nat.{ℕ, ◌≤◌, ◌<◌, ◌-◌}
+use Prim.Native.Nat.{ℕ}
 use native.Mathlib.Omega.{arith}
 use native.Mathlib.Nat.{not-suc-le-zero}
 use borrow.Author.Rules.{rules}
-use lib.ListN.{length}
 use lib.IntN.{ℤ}
 use mir.Syntax.{w64}
 use mir.Val.{to_z, of_z}
 use mir.Facts.{to_z-of_z}
-use Rattle.limits.specs.Limits.{most_streams}
 use Rattle.walks.specs.Longest.{plus, sup_to}
 use Rattle.square.specs.Square.{NO, best, at, cell}
 use Rattle.basis.proofs.Firsts.{put_more}
@@ -27,7 +25,7 @@ loop-i-preserved c = let s = c.before.before.before.before in let l = c.loop-i i
   search rules,
   search rules,
   put_more (λ (m : ℕ) (z : ℤ). best z ≡ sup_to (λ (x : ℕ). plus (cell s.args.a m x) (at s.args.line x)) s.args.s) NO l.out l.i (to_z w64 (of_z w64 c.longest_on.result)) (search rules) l.invariant.2
-      (ap best (to_z-of_z (record { sfits = c.longest_on.type_inv })) ∙ c.longest_on.ensures),
+      (ap best (to_z-of_z {w = w64} (record { sfits = c.longest_on.type_inv })) ∙ c.longest_on.ensures),
 )
 
 pub returns : goal.returns

@@ -1,19 +1,11 @@
 -- `edge_more` meets its contract. Invariant: the totals passed have one edge more. Measure: the totals left.
 -- Assumes nothing.
-use mathlib.Core.Path.{◌≡◌, ap, ◌∙◌}
+use mathlib.Core.Path.{◌≡◌}
 use Prim.Native.Nat.{ℕ, ◌≤◌, ◌<◌, ◌-◌}
-use native.Mathlib.Omega.{arith}
-use native.Mathlib.Nat.{not-suc-le-zero}
-use borrow.Author.Rules.{rules}
 use lib.ListN.{length}
-use lib.IntN.{ℤ}
-use mir.Syntax.{w64}
-use mir.Val.{to_z, of_z}
-use mir.Facts.{to_z-of_z}
 use Rattle.limits.specs.Limits.{most_streams}
 use Rattle.walks.specs.Longest.{plus, sup_to}
-use Rattle.square.specs.Square.{NO, best, at, cell}
-use Rattle.basis.proofs.Firsts.{put_more}
+use Rattle.square.specs.Square.{at, cell}
 use Rattle.square.proofs.edge_more.Given as goal
 
 abbrev pub invariant-loop-i : goal.invariant-loop-i

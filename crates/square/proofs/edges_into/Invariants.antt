@@ -1,19 +1,10 @@
 -- `edges_into` meets its contract. Invariant: the entries passed are those of the column. Measure: the entries left.
 -- Assumes nothing.
-use mathlib.Core.Path.{◌≡◌, ap}
-use mathlib.Core.List.{[]}
+use mathlib.Core.Path.{◌≡◌}
 use Prim.Native.Nat.{ℕ, ◌≤◌, ◌<◌, ◌-◌}
-use native.Mathlib.Omega.{arith}
-use native.Mathlib.Nat.{not-suc-le-zero}
-use borrow.Author.Rules.{rules}
-use lib.ListN.{length, get_or}
-use lib.IntN.{ℤ, pos}
-use mir.Syntax.{w64}
-use mir.Val.{to_z, of_z}
+use lib.ListN.{length}
 use Rattle.limits.specs.Limits.{most_streams}
-use Rattle.square.specs.Square.{NO, best, at, cell}
-use Rattle.basis.proofs.Firsts.{put_more}
-use Rattle.square.proofs.Rows.{cell_is}
+use Rattle.square.specs.Square.{at, cell}
 use Rattle.square.proofs.edges_into.Given as goal
 
 abbrev pub invariant-loop-i : goal.invariant-loop-i

@@ -2,9 +2,8 @@
 -- Assumes nothing.
 use mathlib.Core.Path.{◌≡◌, refl, sym, ap, ap₂, ◌∙◌}
 use mathlib.Core.Bool.{Bool, cond}
-use mathlib.Core.Logic.{⊎_elim}
 use mathlib.Core.List.{List}
-use Prim.Native.Nat.{ℕ, ◌+◌, ◌≤◌, ◌-◌}
+use Prim.Native.Nat.{ℕ, ◌+◌}
 use native.Mathlib.Omega.{arith}
 use native.Mathlib.Numerals.{add-one}
 use borrow.Author.Rules.{rules}
@@ -18,7 +17,7 @@ use Rattle.square.specs.Square.{NO, at}
 use Rattle.square.proofs.Cells.{grow}
 use Rattle.square.proofs.Rows.{read_is}
 use Rattle.square.proofs.look_ahead.Goals as goal
-use Rattle.square.proofs.look_ahead.Goals.{After-loop-j}
+use Rattle.square.proofs.look_ahead.Goals.{After-loop-j, then-most-row, else-most-row}
 
 -- the largest so far and the next of the row, by the test
 turn : (l : List ℤ) (j : ℕ) (a z r : ℤ) → a ≡ pos (look_to (at l) j) → z ≡ get_or l j NO → r ≡ cond (lt_z a z) z a → r ≡ pos (look_to (at l) (j + 1))
@@ -37,8 +36,8 @@ pub loop-j-preserved : goal.loop-j-preserved
 loop-j-preserved c = let s = c.before.before.before.before in let l = c.loop-j in
     let z = to_z w64 (of_z w64 (get_or s.args.row l.j (pos 0))) in (
       search rules,
-      turn s.args.row l.j (to_z w64 l.most-bits) z (to_z w64 c.if-most-row.most-bits) l.invariant.1 (read_is s.args.row l.j c.t10-1.given (search rules))
-          (⊎_elim (λ w. ap (to_z w64) w.most-is-bits ∙ ap (λ (b : Bool). cond b z (to_z w64 l.most-bits)) (sym w.if-most-row.true)) (λ w. ap (to_z w64) w.most-is-bits ∙ ap (λ (b : Bool). cond b z (to_z w64 l.most-bits)) (sym w.if-most-row.false)) c.if-most-row.branch-raw),
+      turn s.args.row l.j (to_z w64 l.most-bits) z (to_z w64 c.if-most-row.most-bits) l.invariant.1 (read_is s.args.row l.j (search rules) (search rules))
+          (elim c.if-most-row.branch [ then-most-row w ↦ ap (to_z w64) w.most-is-bits ∙ ap (λ (b : Bool). cond b z (to_z w64 l.most-bits)) (sym w.if-most-row.true) | else-most-row w ↦ ap (to_z w64) w.most-is-bits ∙ ap (λ (b : Bool). cond b z (to_z w64 l.most-bits)) (sym w.if-most-row.false) ]),
     )
 
 pub overflow_cast-result : goal.overflow_cast-result

@@ -2,7 +2,7 @@
 -- Assumes nothing.
 use mathlib.Core.Path.{◌≡◌, subst}
 use mathlib.Core.Bool.{cond}
-use Prim.Native.Nat.{ℕ, ◌≤◌, ◌-◌}
+use Prim.Native.Nat.{ℕ}
 use native.Mathlib.Omega.{arith}
 use borrow.Author.Rules.{rules}
 use lib.Dec.{ltb}
@@ -10,7 +10,7 @@ use Rattle.limits.specs.Limits.{most_streams}
 use Rattle.walks.specs.Longest.{look_to, look_of}
 use Rattle.basis.specs.Firsts.{firsts}
 use Rattle.square.specs.Square.{cell}
-use Rattle.basis.proofs.Firsts.{Filled, filled_none, filled_more, filled_all}
+use Rattle.basis.proofs.Firsts.{filled_none, filled_more, filled_all}
 use Rattle.square.proofs.look_aheads.Goals as goal
 
 pub loop-v-init : goal.loop-v-init

@@ -1,16 +1,10 @@
 -- `look_aheads` meets its contract. Invariant: look-aheads at the streams passed, 0 from `v` on. Measure: the streams left.
 -- Assumes nothing.
-use mathlib.Core.Path.{◌≡◌, subst}
-use mathlib.Core.Bool.{cond}
 use Prim.Native.Nat.{ℕ, ◌≤◌, ◌-◌}
-use native.Mathlib.Omega.{arith}
-use borrow.Author.Rules.{rules}
-use lib.Dec.{ltb}
 use Rattle.limits.specs.Limits.{most_streams}
-use Rattle.walks.specs.Longest.{look_to, look_of}
-use Rattle.basis.specs.Firsts.{firsts}
+use Rattle.walks.specs.Longest.{look_to}
 use Rattle.square.specs.Square.{cell}
-use Rattle.basis.proofs.Firsts.{Filled, filled_none, filled_more, filled_all}
+use Rattle.basis.proofs.Firsts.{Filled}
 use Rattle.square.proofs.look_aheads.Given as goal
 
 abbrev pub invariant-loop-v : goal.invariant-loop-v

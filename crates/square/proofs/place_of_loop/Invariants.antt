@@ -1,15 +1,10 @@
 -- `place_of_loop` meets its contract. Invariant: the streams passed have no short loop. Measure: the streams left.
 -- Assumes nothing.
-use mathlib.Core.Path.{◌≡◌, sym, ◌∙◌}
+use mathlib.Core.Path.{◌≡◌}
 use mathlib.Core.Bool.{false}
 use Prim.Native.Nat.{ℕ, ◌≤◌, ◌<◌, ◌-◌}
-use native.Mathlib.Omega.{arith}
-use native.Mathlib.Nat.{not-suc-le-zero}
-use borrow.Author.Count.{below_more}
-use borrow.Author.Rules.{rules}
 use Rattle.walks.specs.Longest.{short_loop_of}
 use Rattle.square.specs.Square.{cell}
-use Rattle.square.proofs.Tested.{place_found}
 use Rattle.square.proofs.place_of_loop.Given as goal
 
 abbrev pub invariant-loop-v : goal.invariant-loop-v

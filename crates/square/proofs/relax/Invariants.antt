@@ -1,20 +1,11 @@
 -- `relax` meets its contract. Invariant: the rows passed are relaxed. Measure: the rows left.
 -- Assumes nothing.
-use mathlib.Core.Path.{◌≡◌, ap, ◌∙◌}
-use mathlib.Core.List.{List, []}
+use mathlib.Core.Path.{◌≡◌}
+use mathlib.Core.List.{[]}
 use Prim.Native.Nat.{ℕ, ◌≤◌, ◌<◌, ◌-◌}
-use native.Mathlib.Omega.{arith}
-use native.Mathlib.Nat.{not-suc-le-zero}
-use borrow.Author.Rules.{rules}
 use lib.ListN.{length, get_or}
-use lib.IntN.{ℤ, pos}
-use mir.Syntax.{w64}
-use mir.Val.{to_z, of_z}
 use Rattle.limits.specs.Limits.{most_streams}
-use Rattle.walks.specs.Longest.{relax_b}
-use Rattle.square.specs.Square.{NO, best, at, cell}
-use Rattle.basis.proofs.Firsts.{put_more}
-use Rattle.square.proofs.Rows.{cell_is}
+use Rattle.square.proofs.Rows.{Row}
 use Rattle.square.proofs.relax.Given as goal
 
 abbrev pub invariant-loop-i : goal.invariant-loop-i

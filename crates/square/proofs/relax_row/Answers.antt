@@ -1,42 +1,33 @@
 -- `relax_row` meets its contract. Invariant: the entries passed are relaxed. Measure: the entries left.
 -- Assumes nothing.
 use mathlib.Core.Path.{◌≡◌, ap, ap₂, ◌∙◌}
-use Prim.Native.Nat.{ℕ, ◌≤◌, ◌<◌, ◌-◌}
+use Prim.Native.Nat.{ℕ}
 use native.Mathlib.Omega.{arith}
 use native.Mathlib.Nat.{not-suc-le-zero}
 use borrow.Author.Rules.{rules}
-use lib.ListN.{length, get_or}
-use lib.IntN.{ℤ, pos}
+use lib.IntN.{ℤ}
 use mir.Syntax.{w64}
 use mir.Val.{to_z, of_z}
 use mir.Facts.{to_z-of_z}
-use Rattle.limits.specs.Limits.{most_streams}
 use Rattle.walks.specs.Longest.{relax_b}
 use Rattle.square.specs.Square.{NO, best, at}
-use Rattle.basis.proofs.Firsts.{get_d_any, put_more}
+use Rattle.basis.proofs.Firsts.{put_more}
+use Rattle.square.proofs.Rows.{read_is}
 use Rattle.square.proofs.relax_row.Goals as goal
-use Rattle.square.proofs.relax_row.Goals.{After-relaxed-arg-in-loop-j-1}
-
--- what the second read of the turn gives
-via_is : (c : After-relaxed-arg-in-loop-j-1) → to_z w64 (of_z w64 (get_or c.args.via c.loop-j.j (pos 0))) ≡ get_or c.args.via c.loop-j.j NO
-via_is c = to_z-of_z (record { sfits = c.relaxed-arg-in-loop-j-1.given }) ∙ get_d_any c.args.via c.loop-j.j (pos 0) NO (search rules)
-
-row_is : (c : After-relaxed-arg-in-loop-j-1) → to_z w64 (of_z w64 (get_or c.args.row c.loop-j.j (pos 0))) ≡ get_or c.args.row c.loop-j.j NO
-row_is c = to_z-of_z (record { sfits = c.relaxed-arg-1.given }) ∙ get_d_any c.args.row c.loop-j.j (pos 0) NO (search rules)
 
 pub loop-j-init : goal.loop-j-init
 loop-j-init c = (search rules, search rules, λ i h. absurd (not-suc-le-zero h))
 
 pub relaxed-requires : goal.relaxed-requires
 relaxed-requires c = let s = c.before.before.before.before in
-    (rw (to_z-of_z s.ranges.left) s.requires.0, rw (via_is c) (s.requires.1 c.loop-j.j c.loop-j-test.true))
+    (rw (to_z-of_z s.ranges.left) s.requires.0, rw (read_is s.args.via c.loop-j.j (search rules) (search rules)) (s.requires.1 c.loop-j.j c.loop-j-test.true))
 
 pub loop-j-preserved : goal.loop-j-preserved
 loop-j-preserved c = let s = c.before.before.before.before.before in let l = c.loop-j in (
   search rules,
   search rules,
   put_more (λ (i : ℕ) (z : ℤ). best z ≡ relax_b (at s.args.row i) (best (to_z w64 (of_z w64 s.args.left))) (at s.args.via i)) NO l.out l.j (to_z w64 (of_z w64 c.relaxed.result))
-      (search rules) l.invariant.2 (ap best (to_z-of_z (record { sfits = c.relaxed.type_inv })) ∙ c.relaxed.ensures ∙ ap₂ (λ (x y : ℤ). relax_b (best x) (best (to_z w64 (of_z w64 s.args.left))) (best y)) (row_is c.before) (via_is c.before)),
+      (search rules) l.invariant.2 (ap best (to_z-of_z {w = w64} (record { sfits = c.relaxed.type_inv })) ∙ c.relaxed.ensures ∙ ap₂ (λ (x y : ℤ). relax_b (best x) (best (to_z w64 (of_z w64 s.args.left))) (best y)) (read_is s.args.row l.j (search rules) (search rules)) (read_is s.args.via l.j (search rules) (search rules))),
 )
 
 pub returns : goal.returns
