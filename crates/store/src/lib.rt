@@ -1,6 +1,7 @@
 // The lent store (document 01, "A run"): all code that reads or writes its words. `types`, `look` and `kept` hold a number for each of the
 // 32 streams, 0 past the last. It assumes nothing.
 #![tactic(auto)]
+
 ghost use Rattle.std.specs.Prelude.{◌≡◌, ◌%◌, ◌≤◌, ◌<◌, length, get_or, set};
 ghost use Rattle.basis.specs.Rows.{entry, Shaped};
 ghost use Rattle.value.specs.Values.{reading_of, image_of};

@@ -3,7 +3,6 @@
 use mathlib.Core.Path.{refl}
 use native.Mathlib.Omega.{arith}
 use native.Mathlib.Nat.{mod-le}
-use borrow.Author.Rules.{rules}
 use Rattle.store.proofs.Places.{first_lap}
 use Rattle.store.proofs.lap_before.Goals as goal
 

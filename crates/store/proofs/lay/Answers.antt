@@ -1,22 +1,27 @@
 -- `store::lay` meets its contract: the rows before v's are laid, and `part` is where the next part starts.
 -- Assumes nothing.
 use mathlib.Core.Path.{◌≡◌}
-use mathlib.Core.Logic.{⊎_elim}
-use Prim.Native.Nat.{◌*◌, ◌-◌, ◌≤◌}
+use Prim.Native.Nat.{◌+◌, ◌<◌, ◌^◌}
 use native.Mathlib.Omega.{arith}
-use borrow.Author.Rules.{rules}
 use Rattle.basis.proofs.Sums.{sum_on}
-use Rattle.store.proofs.Frames.{newest_due, newest_last, newest_small, none_before, laid_none, lapped_due, lapped_not, laid_more, framed}
-use Rattle.basis.specs.Firsts.{of}
-use Rattle.run.specs.Words.{base}
-use Rattle.store.specs.Store.{Laid}
+use Rattle.store.proofs.Frames.{Lapped, newest_due, newest_last, newest_small, none_before, laid_none, lapped_due, lapped_not, laid_more, framed}
+use Rattle.limits.specs.Limits.{most_streams}
+use Rattle.store.specs.Store.{newest_of}
 use Rattle.store.proofs.lay.Goals as goal
+use Rattle.store.proofs.lay.Goals.{then-t-known, else-t-known, then-ahead-t, else-ahead-t}
 
 pub loop-v-init : goal.loop-v-init
 loop-v-init c = (omega arith, (omega arith, (none_before _, laid_none _ _ _ _ _ c.requires.shape)))
 
 pub overflow_cast-p : goal.overflow_cast-p
-overflow_cast-p c = let e = ⊎_elim (λ w. newest_due c.args.look.now c.args.known c.args.t c.loop-v.v c.short_wide-ahead.ensures.0 w.if-t-known.true w.p-is) (λ w. newest_last c.args.look.now c.args.known c.args.t c.loop-v.v c.short_wide-ahead.ensures.0 w.if-t-known.false w.p-is) c.if-t-known.branch-raw in record { fits = omega (arith, e, newest_small c.args.look.now c.args.known c.args.t c.loop-v.v c.short_wide-ahead.ensures.0 c.requires.row e, c.requires.rows) }
+overflow_cast-p c =
+    let look = c.args.look.now in
+    let v = c.loop-v.v in
+    let newest : c.if-t-known.p ≡ newest_of look c.args.known c.args.t v = elim c.if-t-known.branch [
+      | then-t-known w ↦ newest_due look c.args.known c.args.t v c.short_wide-ahead.ensures.0 w.if-t-known.true w.p-is
+      | else-t-known w ↦ newest_last look c.args.known c.args.t v c.short_wide-ahead.ensures.0 w.if-t-known.false w.p-is
+    ] in
+    record { fits = omega (arith, newest, newest_small look c.args.known c.args.t v c.short_wide-ahead.ensures.0 c.requires.row newest, c.requires.rows) }
 
 pub lap_before-requires : goal.lap_before-requires
 lap_before-requires c = omega (arith, c.short_word-n.ensures.0, c.requires.some _ c.loop-v-test.true)
@@ -25,7 +30,28 @@ pub overflow_add-part : goal.overflow_add-part
 overflow_add-part c = record { fits = omega (arith, c.loop-v.invariant.1.0, c.short_word-n.ensures.1, c.loop-v-test.true, c.requires.few) }
 
 pub loop-v-preserved : goal.loop-v-preserved
-loop-v-preserved c = (omega arith, (omega (arith, c.loop-v.invariant.1.0, c.short_word-n.ensures.1), (sum_on _ c.loop-v.invariant.1.1.0 c.short_word-n.ensures.0, laid_more c.args.types.now c.args.look.now c.args.kept.now c.args.known c.args.t c.loop-v.v (omega (arith, c.loop-v-test.true, c.requires.few)) (⊎_elim (λ w. lapped_due c.args.types.now c.args.look.now c.args.kept.now c.args.known c.args.t c.loop-v.v (omega (arith, c.loop-v-test.true, c.requires.few)) c.loop-v.invariant.1.1.1 (⊎_elim (λ w. newest_due c.args.look.now c.args.known c.args.t c.loop-v.v c.short_wide-ahead.ensures.0 w.if-ahead-t.true w.if-t-known) (λ w. newest_last c.args.look.now c.args.known c.args.t c.loop-v.v c.short_wide-ahead.ensures.0 w.if-ahead-t.false w.if-t-known) w.if-t-known.branch-raw) c.short_word-n.ensures.0 w.lap_before.ensures w.frame-is) (λ w. lapped_not c.args.types.now c.args.look.now c.args.kept.now c.args.known c.args.t c.loop-v.v (omega (arith, c.loop-v-test.true, c.requires.few)) c.loop-v.invariant.1.1.1 c.short_wide-ahead.ensures.0 w.if-ahead-t.false w.frame-is) c.if-ahead-t.branch-raw) c.loop-v.invariant.1.1.0 c.short_word-n.ensures.0 c.byte_word.ensures.0 (omega (arith, c.loop-v.invariant.1.0, c.short_word-n.ensures.1, c.loop-v-test.true, c.requires.few)) c.byte_word.ensures.1)))
+loop-v-preserved c =
+    let types = c.args.types.now in
+    let look = c.args.look.now in
+    let kept = c.args.kept.now in
+    let n = c.args.known in
+    let t = c.args.t in
+    let v = c.loop-v.v in
+    let below : v < most_streams = omega (arith, c.loop-v-test.true, c.requires.few) in
+    let laid = c.loop-v.invariant.1.1.1 in
+    let lapped : Lapped types look kept n t v c.if-ahead-t.frame = elim c.if-ahead-t.branch [
+      | then-ahead-t w ↦
+          (let newest : w.if-t-known.p ≡ newest_of look n t v = elim w.if-t-known.branch [
+            | then-t-known y ↦ newest_due look n t v c.short_wide-ahead.ensures.0 y.if-t-known.true y.p-is
+            | else-t-known y ↦ newest_last look n t v c.short_wide-ahead.ensures.0 y.if-t-known.false y.p-is
+          ] in
+          lapped_due types look kept n t v below laid newest c.short_word-n.ensures.0 w.lap_before.ensures w.frame-is)
+      | else-ahead-t w ↦ lapped_not types look kept n t v below laid c.short_wide-ahead.ensures.0 w.if-ahead-t.false w.frame-is
+    ] in
+    let starts = c.loop-v.invariant.1.1.0 in
+    let narrow : c.loop-v.part + c.short_word-n.result < 2 ^ 32 = omega (arith, c.loop-v.invariant.1.0, c.short_word-n.ensures.1, c.loop-v-test.true, c.requires.few) in
+    let more = laid_more types look kept n t v below lapped starts c.short_word-n.ensures.0 c.byte_word.ensures.0 narrow c.byte_word.ensures.1 in
+    (omega arith, (omega (arith, c.loop-v.invariant.1.0, c.short_word-n.ensures.1), (sum_on _ starts c.short_word-n.ensures.0, more)))
 
 pub returns : goal.returns
 returns c = framed c.requires.few c.loop-v.invariant.0 c.loop-v-test.false c.loop-v.invariant.1.1.1

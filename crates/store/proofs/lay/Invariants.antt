@@ -1,12 +1,7 @@
 -- `store::lay` meets its contract: the rows before v's are laid, and `part` is where the next part starts.
 -- Assumes nothing.
 use mathlib.Core.Path.{◌≡◌}
-use mathlib.Core.Logic.{⊎_elim}
 use Prim.Native.Nat.{◌*◌, ◌-◌, ◌≤◌}
-use native.Mathlib.Omega.{arith}
-use borrow.Author.Rules.{rules}
-use Rattle.basis.proofs.Sums.{sum_on}
-use Rattle.store.proofs.Frames.{newest_due, newest_last, newest_small, none_before, laid_none, lapped_due, lapped_not, laid_more, framed}
 use Rattle.basis.specs.Firsts.{of}
 use Rattle.run.specs.Words.{base}
 use Rattle.store.specs.Store.{Laid}

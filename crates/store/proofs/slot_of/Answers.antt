@@ -1,6 +1,5 @@
 -- `store::slot_of` meets its contract.
 -- Assumes nothing.
-use borrow.Author.Rules.{rules}
 use Rattle.store.proofs.Places.{slot_alone}
 use Rattle.store.proofs.slot_of.Goals as goal
 
