@@ -1,10 +1,8 @@
 -- Bytes of a part row, or whole rows and their lines. Assumes nothing.
-use borrow.Author.Tests.{ltb-false}
 use native.Mathlib.Omega.{arith}
 use mathlib.Core.Path.{sym}
 use lib.Seq.{length-take-le}
 use Rattle.feed.proofs.Advancing.{rows_taken}
-use borrow.Author.Rules.{rules}
 use Rattle.feed.proofs.take_rows.Goals as goal
 
 pub slice_bounds-inputs_of-end : goal.slice_bounds-inputs_of-end
