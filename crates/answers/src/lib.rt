@@ -52,6 +52,7 @@ fn row_words(input: &[u8], from: usize, inputs: usize, words: &mut [u32])
 }
 
 // A line for each record in the first `count` bytes, or the line of the refusal.
+#[tactic(auto, unfolding(crate::specs::Rows::answer_text))]
 fn put_answer(
     number: u8,
     place: usize,

@@ -90,6 +90,7 @@ pub fn begin() -> State
 }
 
 // The head, as far as the input has it.
+#[tactic(auto, unfolding(crate::specs::Head::input_head, crate::specs::Head::length_of))]
 fn head_of(head: &[u8]) -> Head
     ensures { result ≡ input_head head.now }
 {

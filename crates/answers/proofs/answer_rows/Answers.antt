@@ -1,5 +1,4 @@
--- The loop's invariant: some rows have been answered, each whole. The measure is the number of bytes left.
--- Assumes nothing.
+-- No row, one row more, and that some row is taken where one is there. Assumes nothing.
 use borrow.Author.Rules.{rules}
 use borrow.Author.Tests.{leb-false}
 use native.Mathlib.Omega.{arith}

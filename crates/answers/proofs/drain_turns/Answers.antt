@@ -1,5 +1,4 @@
--- The loop's invariant: so many closing turns are done. The measure is what is left of the bound on their number.
--- Assumes nothing.
+-- No turn, one turn more, and that some turn is taken where one is left. Assumes nothing.
 use borrow.Author.Rules.{rules}
 use borrow.Author.Tests.{leb-false}
 use native.Mathlib.Omega.{arith}

@@ -1,5 +1,4 @@
--- The loop's invariant: the first i words of the row stand in the first i words lent. The measure is the number of words left.
--- Assumes nothing.
+-- The words before the first, and one word more. Assumes nothing.
 use native.Mathlib.Omega.{arith}
 use mathlib.Core.Path.{refl}
 use lib.ListN.{length-set}
