@@ -8,7 +8,7 @@ set -e
 archive=${1:-target/staticlib/libdock.a}
 out=target/bench
 
-[ -f "$archive" ] || { echo "build the archive first: rt staticlib dock"; exit 1; }
+[ -f "$archive" ] || { echo "build the archive first: sh tools/build"; exit 1; }
 mkdir -p "$out"
 rustc -O --edition 2021 --crate-type rlib -o "$out/libbaseline.rlib" bench/baseline.rs
 rustc -O --edition 2021 --extern baseline="$out/libbaseline.rlib" -C link-arg="$archive" \

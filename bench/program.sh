@@ -11,7 +11,7 @@ counted=20000
 out=target/bench
 names="program anew once"
 
-[ -x target/bin/glasspuddle ] || { echo "build the program first: rt check glasspuddle"; exit 1; }
+[ -x target/bin/glasspuddle ] || { echo "build the program first: sh tools/build"; exit 1; }
 mkdir -p "$out"
 rm -f "$out"/*.times "$out"/*.counts
 rustc -O --edition 2021 --crate-type rlib -o "$out/libbaseline.rlib" bench/baseline.rs

@@ -1,8 +1,7 @@
 #!/bin/sh
-# Each must-fail edit has to be refused at a fact that no longer holds. From the repository's root,
-# after `rt ci`, which leaves the logs: sh tests/edits.sh
-# An edit whose log first says that a need, a field or a name is missing shows only that a proof file
-# no longer fits. Ends with 0 if there is no such edit.
+# Each must-fail edit has to be refused at a fact that no longer holds. From the repository's root, with what `rt ci` printed:
+# sh tests/edits.sh refused LOG
+# An edit that is refused only because a proof file names what it took away shows nothing of the contract. Ends with 0 if there is none.
 # Before `rt ci`, in a moment: sh tests/edits.sh texts
 # The text that an edit replaces has to stand in its file, once.
 set -e
@@ -20,17 +19,19 @@ if [ "${1:-}" = texts ]; then
     echo "edits: the texts of $count are there"
     exit 0
 fi
+log=${2:?the log of rt ci}
 for edit in crates/*/must-fail/*.edit; do
     crate=${edit#crates/}
-    crate=${crate%%/*}
-    label=$(basename "$edit" .edit)
-    log=target/must-fail/$crate/$label/.log
-    [ -f "$log" ] || { echo "edits: no log of $crate/$label, run rt ci first"; exit 1; }
-    first=$(grep -m1 -E ': error: |it is not proved|no proof' "$log") \
-        || { echo "edits: $crate/$label has no refusal in its log"; exit 1; }
-    case $first in
-    *'has no `'* | *'has no field'* | *'is not in scope'* | *'unexpected character'*)
-        echo "edits: $crate/$label is refused for its shape: $first"
+    label=${crate%%/*}/$(basename "$edit")
+    said=$(grep -F "must-fail $label: " "$log" || true)
+    case $said in
+    *'refused, as it must be (only because a proof file names'*)
+        echo "edits: $label is refused for its shape: $said"
+        exit 1
+        ;;
+    *'refused, as it must be'*) ;;
+    *)
+        echo "edits: $label is not refused: ${said:-no line in the log}"
         exit 1
         ;;
     esac

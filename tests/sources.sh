@@ -7,10 +7,10 @@ set -e
 export LC_ALL=C
 bad=0
 
-# The crates that a crate's files name: in antt by Rattle·NAME, in code by NAME:: too.
+# The crates that a crate's files name: in antt by Rattle.NAME, in code by NAME:: too.
 named() {
     find "crates/$1" -name '*.antt' -o -name '*.rt' | xargs sed 's/\(--\|\/\/\).*//' \
-        | grep -o 'Rattle·[a-z0-9_]*' | sed 's/Rattle·//'
+        | grep -o 'Rattle\.[a-z0-9_]*' | sed 's/Rattle\.//'
     sed 's/\/\/.*//' "crates/$1"/src/*.rt | grep -oE '\b[a-z0-9_]+::' | sed 's/:://'
 }
 
@@ -21,14 +21,14 @@ held() {
     esac
 }
 
-known=$(sed -n 's/^\([a-z0-9_]*\):.*/\1/p' crates.txt)
+known=$(sed -n 's/^\([a-z0-9_]*\)\( staticlib\)*:.*/\1/p' crates.txt)
 for crate in $known; do
     found=$( (named "$crate"; held "$crate") | sort -u | while read -r name; do
-        case " $(echo $known) io libc os check bytes " in
+        case " $(echo $known) " in
         *" $name "*) [ "$name" = "$crate" ] || echo "$name" ;;
         esac
     done)
-    listed=$(sed -n "s/^$crate://p" crates.txt | tr ' ' '\n' | sed '/^$/d' | sort -u)
+    listed=$(sed -n "s/^$crate\( staticlib\)*://p" crates.txt | tr ' ' '\n' | sed '/^$/d' | sort -u)
     if [ "$found" != "$listed" ]; then
         echo "sources: crates.txt, $crate: listed and not named, or named and not listed:" \
             $( (echo "$found"; echo "$listed") | sed '/^$/d' | sort | uniq -u)
@@ -36,7 +36,7 @@ for crate in $known; do
     fi
 done
 
-# An operator, as _+_, is named where all its parts are.
+# An operator, as ◌+◌, is named where all its parts are.
 idle=$(find crates -name '*.antt' -o -name '*.rt' | sort | while read -r file; do
     awk -v file="$file" '
         /^[ \t]*(ghost )?use [^{}]*\{[^}]*\};?$/ {
@@ -59,8 +59,8 @@ idle=$(find crates -name '*.antt' -o -name '*.rt' | sort | while read -r file; d
             for (name in wanted) {
                 if (name == "" || name in there) continue
                 missing = 0
-                if (index(name, "_") > 0 && name !~ /^[A-Za-z0-9_]+$/) {
-                    n = split(name, parts, /_+/)
+                if (index(name, "◌") > 0) {
+                    n = split(name, parts, /(◌)+/)
                     for (i = 1; i <= n; i++) if (parts[i] != "" && index(whole, parts[i]) == 0) missing = 1
                 } else missing = 1
                 if (missing) print file ": " name

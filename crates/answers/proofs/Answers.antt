@@ -32,7 +32,7 @@ refused_text place records h = rw (ne_eqb _ _ h)
 pub reached_by : {x : After} {a : Answer} {st out before after : List ℕ} {at end : ℕ} → Leaves x a st out → Wrote before at (answer_text a.number a.place (take a.count out)) after end → Reached (onward x []) a.run st before at after end
 reached_by {x} {a} {st} {out} l w = record {
   run_is = ap (λ (b : Answer). b.run) l.answer_is;
-  store_is = l.store-is;
+  store_is = l.store_is;
   wrote = wrote_as (text_is l) w;
 }
   where

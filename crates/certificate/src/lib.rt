@@ -2,6 +2,7 @@
 // (document 01, "What the check announces"). `tight` holds each stream's tight targets as bits, `most` the largest slack of an edge into each
 // stream, `seen` what the scan kept of the equation at hand.
 #![tactic(auto)]
+
 ghost use Rattle.std.specs.Prelude.{◌≡◌, cond, List, ℕ, ◌+◌, ◌-◌, ◌<◌, ◌≤◌, max, length};
 ghost use Rattle.basis.specs.Firsts.{of};
 ghost use Rattle.limits.specs.Limits.{most_streams};

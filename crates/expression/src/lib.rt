@@ -1,6 +1,7 @@
 // The scan of an expression: the place behind it or its first fault, and its references noted by the way. One scan serves the check and
 // the calls. `seen` has a row for each stream, `kinds` is the constant table by kind.
 #![tactic(auto)]
+
 ghost use Rattle.std.specs.Prelude.{◌≡◌, true, false, List, ℕ, ◌+◌, ◌*◌, ◌/◌, ◌%◌, ◌≤◌, ◌<◌, leb, length, take};
 ghost use Rattle.basis.specs.Notes.{rising, falling};
 ghost use Rattle.basis.specs.Rows.{entry};

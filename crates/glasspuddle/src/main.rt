@@ -1,12 +1,15 @@
 // The program (document 01, "The program"): it reads a piece of input, lets `feed` make text of it, and writes the text. A failed read or
 // write stops it, with a message and no further line.
 #![tactic(auto)]
-ghost use Rattle.std.specs.Prelude.{◌≡◌, true, List, ℕ, ◌+◌, ◌≤◌, ◌<◌, ◌^◌, length};
+
+ghost use Rattle.std.specs.Prelude.{◌≡◌, true, List, ℕ, ◌+◌, ◌≤◌, ◌<◌, ◌^◌, length, IfSome};
 ghost use Rattle.records.specs.Kinds.{most_text};
 ghost use Rattle.feed.specs.Stands.{reading, Lent, Standing};
 
 use feed::State;
-use libc::{STDERR_FILENO, STDIN_FILENO, STDOUT_FILENO};
+use std::io;
+use std::io::{ErrorKind, IsTerminal, Read, Write};
+use std::rt::Clock;
 
 // The bytes of one read.
 const PIECE_MOST: usize = 65536;
@@ -18,84 +21,114 @@ struct Went {
     state: State,
 }
 
-// Whether a call that failed may be made again: it was interrupted before it moved a byte, or nothing was ready. Then it waits a moment.
-fn again() -> bool {
-    let error = os::errno();
-    if error == libc::EINTR {
-        return true;
-    }
-    if error != libc::EAGAIN {
-        return false;
-    }
-    wait::pause();
-    true
+// What the program is connected to: its input, which was a terminal when it began or was none, its output, where its messages go, and the
+// clock by which it waits.
+#[derive(Drop)]
+struct Ends<I, O, M, C> {
+    input: I,
+    was_terminal: bool,
+    output: O,
+    messages: M,
+    clock: C,
 }
 
-// Puts all of the text to a descriptor, or answers false.
-fn put(descriptor: i32, text: &[u8]) -> bool {
+// Whether a call that failed may be made again: it was interrupted before it moved a byte, or nothing was ready. Then it waits a moment.
+fn again(clock: &impl Clock, error: io::Error) -> bool {
+    match error.kind() {
+        ErrorKind::Interrupted => true,
+        ErrorKind::WouldBlock => {
+            wait::pause(clock);
+            true
+        }
+        _ => false,
+    }
+}
+
+// Puts all of the text to a writer, or answers false. A loop has to end: this one does after 2^64 tries.
+fn put<O: Write>(to: &mut O, clock: &impl Clock, text: &[u8]) -> bool {
     let mut done: usize = 0;
     let mut tries: u64 = u64::MAX;
     while done < text.len() && tries > 0 {
-        let rest = &text[done..];
-        let got = libc::write(descriptor, rest);
-        if got <= 0 && !again() {
-            return false;
+        match to.write(&text[done..]) {
+            Ok(0) => return false,
+            Ok(n) => done += n,
+            Err(error) => {
+                if !again(clock, error) {
+                    return false;
+                }
+            }
         }
-        done += io::count(got, rest);
         tries -= 1;
     }
-    true
+    done == text.len()
 }
 
-// Where a read says that the input is at its end: 0, or -1 where it was cut off. Of a terminal that hung up the system says so when it is
-// asked whether it is one.
-fn at_end() -> isize {
-    if libc::isatty(STDIN_FILENO) != 0 {
-        return 0;
+// Where a read says that the input is at its end: whether it is, or was cut off. A terminal that hung up is none any more.
+fn at_end<I: IsTerminal, O, M: Write, C: Clock>(ends: &mut Ends<I, O, M, C>) -> bool {
+    if !ends.was_terminal {
+        return true;
     }
-    if os::errno() != libc::EIO {
-        return 0;
+    if ends.input.is_terminal() {
+        return true;
     }
     put(
-        STDERR_FILENO,
+        &mut ends.messages,
+        &ends.clock,
         b"glasspuddle: reading failed: the input was cut off\n",
     );
-    -1
+    false
 }
 
-// One read: the number of bytes, 0 at the end of the input, or -1. A loop has to end: this one does after 2^64 tries.
-fn read_some(input: &mut [u8]) -> isize {
+// One read: the number of bytes, 0 at the end of the input, or none where it failed. A loop has to end: this one does after 2^64 tries.
+fn read_some<I: Read + IsTerminal, O, M: Write, C: Clock>(
+    ends: &mut Ends<I, O, M, C>,
+    input: &mut [u8],
+) -> Option<usize>
+    ensures { IfSome result (λ n. n ≤ length input.new) }
+{
     let mut tries: u64 = u64::MAX;
     while tries > 0 {
-        let got = libc::read(STDIN_FILENO, input);
-        if got > 0 {
-            return got;
-        }
-        if got == 0 {
-            return at_end();
-        }
-        if !again() {
-            put(STDERR_FILENO, b"glasspuddle: reading failed\n");
-            return -1;
+        match ends.input.read(input) {
+            Ok(0) => return if at_end(ends) { Some(0) } else { None },
+            Ok(n) => return Some(n),
+            Err(error) => {
+                if !again(&ends.clock, error) {
+                    put(
+                        &mut ends.messages,
+                        &ends.clock,
+                        b"glasspuddle: reading failed\n",
+                    );
+                    return None;
+                }
+            }
         }
         tries -= 1;
     }
-    -1
+    None
 }
 
 // Writes the text, or says that it could not.
-fn write_text(text: &[u8], at: usize) -> bool
+fn write_text<I, O: Write, M: Write, C: Clock>(
+    ends: &mut Ends<I, O, M, C>,
+    text: &[u8],
+    at: usize,
+) -> bool
     requires { at ≤ length text.now }
 {
-    if put(STDOUT_FILENO, &text[..at]) {
+    if put(&mut ends.output, &ends.clock, &text[..at]) {
         return true;
     }
-    put(STDERR_FILENO, b"glasspuddle: writing failed\n");
+    put(
+        &mut ends.messages,
+        &ends.clock,
+        b"glasspuddle: writing failed\n",
+    );
     false
 }
 
 // The lines of one piece of input.
-fn take_piece(
+fn take_piece<I, O: Write, M: Write, C: Clock>(
+    ends: &mut Ends<I, O, M, C>,
     state: State,
     table: &mut [u8],
     store: &mut [u32],
@@ -113,7 +146,7 @@ fn take_piece(
         let advance = feed::step(latest, table, store, part, &piece[used..], text);
         let next = advance.state;
         latest = next;
-        if !write_text(text, advance.at) {
+        if !write_text(ends, text, advance.at) {
             return Went {
                 fine: false,
                 state: latest,
@@ -129,7 +162,8 @@ fn take_piece(
 
 // The lines of the input, read piece by piece: whoever feeds the program row by row is answered row by row. Nothing says that the input
 // ends, and a loop has to: this one stops below 2^64 bytes.
-fn take_input(
+fn take_input<I: Read + IsTerminal, O: Write, M: Write, C: Clock>(
+    ends: &mut Ends<I, O, M, C>,
     table: &mut [u8],
     store: &mut [u32],
     part: &mut [u8],
@@ -141,15 +175,15 @@ fn take_input(
 {
     let mut latest = feed::begin();
     while feed::reads_on(latest) && latest.read <= usize::MAX - PIECE_MOST {
-        let got = read_some(input);
-        let n = io::count(got, input);
+        let got = read_some(ends, input);
+        let n = got.unwrap_or(0);
         if n == 0 {
             return Went {
-                fine: got == 0,
+                fine: got.is_some(),
                 state: latest,
             };
         }
-        let went = take_piece(latest, table, store, part, &input[..n], text);
+        let went = take_piece(ends, latest, table, store, part, &input[..n], text);
         let next = went.state;
         latest = next;
         if !went.fine {
@@ -166,30 +200,45 @@ fn take_input(
 }
 
 // The lines behind the end of the input.
-fn give_rest(state: State, table: &[u8], store: &mut [u32], text: &mut [u8])
+fn give_rest<I, O: Write, M: Write, C: Clock>(
+    ends: &mut Ends<I, O, M, C>,
+    state: State,
+    table: &[u8],
+    store: &mut [u32],
+    text: &mut [u8],
+)
     requires { ((part : List ℕ) × Standing state table.now store.old part) × (most_text ≤ length text.old) }
 {
     let ended = feed::end(state, table, text);
     let first = ended.ending;
     let mut latest = first;
-    let mut fine = write_text(text, ended.at);
+    let mut fine = write_text(ends, text, ended.at);
     while fine && !latest.over {
         let more = feed::finish(latest, table, store, text);
         let next = more.ending;
         latest = next;
-        fine = write_text(text, more.at);
+        fine = write_text(ends, text, more.at);
     }
 }
 
-fn main() {
+fn main(rt: HostRuntime) {
+    let mut ends = Ends {
+        input: rt.stdin(),
+        was_terminal: rt.stdin().is_terminal(),
+        output: rt.stdout(),
+        messages: rt.stderr(),
+        clock: rt,
+    };
     let mut table = [0u8; limits::TABLE_MOST];
     let mut store = [0u32; limits::STORE_MOST];
     let mut part = [0u8; feed::PART_MOST];
-    let mut input = io::large_buffer();
-    let mut text = io::large_buffer();
-    let went = take_input(&mut table, &mut store, &mut part, &mut input, &mut text);
+    let mut input = [0u8; PIECE_MOST];
+    let mut text = [0u8; PIECE_MOST];
+    let went = take_input(
+        &mut ends, &mut table, &mut store, &mut part, &mut input, &mut text,
+    );
     let state = went.state;
     if went.fine {
-        give_rest(state, &table, &mut store, &mut text);
+        give_rest(&mut ends, state, &table, &mut store, &mut text);
     }
 }

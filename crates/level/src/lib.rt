@@ -1,6 +1,7 @@
 // A binary32 level and its 32 bits (document 01, "Values"). There is one NaN: every NaN pattern is
 // read as it, and its image is 7FC00000.
 #![tactic(auto)]
+
 ghost use Rattle.std.specs.Prelude.{◌≡◌};
 ghost use Rattle.std.specs.Float.{binary32};
 ghost use Rattle.std.specs.Float.Ieee.{nan_bits, of_bits, to_bits};

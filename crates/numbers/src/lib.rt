@@ -1,5 +1,6 @@
 // Sums over the streams' numbers, and whether numbers are 0 past the last stream (document 01, "What the check announces"). It assumes nothing.
 #![tactic(auto)]
+
 ghost use Rattle.std.specs.Prelude.{◌≡◌, ◌≤◌};
 ghost use Rattle.limits.specs.Limits.{most_streams};
 ghost use Rattle.basis.specs.Firsts.{of};

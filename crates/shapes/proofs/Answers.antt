@@ -36,15 +36,15 @@ pub got_not_lost : (F : Form) (text : List ℕ) (at : ℕ) (x : F.Of) (i p : ℕ
 got_not_lost F text at x i p g h =
     parts_none (F.print x) (drop i (ended text)) (drop at (ended text)) (h.leaves.others x).at (h.leaves.others x).parts g.reads
 
-parts_same : (u s : List ℕ) (j k : ℕ) → Parts u s j → Parts u s k → j ≡ k
-parts_same u s j k (here n) (here m) = refl
-parts_same u s j k (here n) (next h) = absurd (n refl)
-parts_same u s j k (next h) (here m) = absurd (m refl)
-parts_same u s j k (next {u = u'} {s = s'} {k = a} h) (next {k = b} i) = ap suc (parts_same u' s' a b h i)
+parts_same : (u u' s s' : List ℕ) (j k : ℕ) → u ≡ u' → s ≡ s' → Parts u s j → Parts u' s' k → j ≡ k
+parts_same u u' s s' j k e f (here n) (here m) = refl
+parts_same u u' s s' j k e f (here n) (next h) = absurd (n (ap (λ (l : List ℕ). get_or l 0 0) e ∙ sym (ap (λ (l : List ℕ). get_or l 0 0) f)))
+parts_same u u' s s' j k e f (next h) (here m) = absurd (m (sym (ap (λ (l : List ℕ). get_or l 0 0) e) ∙ ap (λ (l : List ℕ). get_or l 0 0) f))
+parts_same u u' s s' j k e f (next {u = v} {s = t} {k = a} h) (next {u = v'} {s = t'} {k = b} i) = ap suc (parts_same v v' t t' a b (ap (drop 1) e) (ap (drop 1) f) h i)
 
 -- the place of the fault is at most that of any other fault of the same text
 fault_le : (F : Form) (s : List ℕ) (p q : ℕ) → Fault F s p → Fault F s q → p ≤ q
-fault_le F s p q g h = omega (arith, parts_same (F.print g.near) s p (h.others g.near).at g.goes (h.others g.near).parts, (h.others g.near).early)
+fault_le F s p q g h = omega (arith, parts_same (F.print g.near) (F.print g.near) s s p (h.others g.near).at refl refl g.goes (h.others g.near).parts, (h.others g.near).early)
 
 pub lost_once : (F : Form) (text : List ℕ) (at p q : ℕ) → Lost F text at p → Lost F text at q → p ≡ q
 lost_once F text at p q g h =

@@ -28,6 +28,7 @@ pub sort_into : (stop : ℕ) (i : Pick (type_names stop)) → (s : Sort) × (pic
 sort_into stop first = (flags, refl)
 sort_into stop (later first) = (words, refl)
 sort_into stop (later (later first)) = (levels, refl)
+sort_into stop (later (later (later i))) = elim i [ ]
 
 pub sort_from : (stop : ℕ) (s : Sort) → (i : Pick (type_names stop)) × (sort_name stop s ≡ picked i)
 sort_from stop flags = (first, refl)
@@ -37,6 +38,7 @@ sort_from stop levels = (later (later first), refl)
 role_into : (i : Pick role_names) → (r : Role) × (picked i ≡ role_name r)
 role_into first = (plain, refl)
 role_into (later first) = (trigger, refl)
+role_into (later (later i)) = elim i [ ]
 
 role_from : (r : Role) → (i : Pick role_names) × (role_name r ≡ picked i)
 role_from plain = (first, refl)

@@ -2,13 +2,16 @@
 // "Refusal numbers"): `number place`, and where the table is accepted look-ahead, kept numbers, store words, room and closing turns.
 // A line that starts with `#` is a comment, and the line `-` is the empty table; one that says nothing is reported as malformed.
 #![tactic(auto)]
-ghost use Rattle.std.specs.Prelude.{true, ◌≡◌, ◌+◌, ◌*◌, ◌≤◌, ◌<◌, length, get_or, take};
+
+ghost use Rattle.std.specs.Prelude.{true, ◌≡◌, ◌+◌, ◌*◌, ◌≤◌, ◌<◌, length, get_or, take, IfOk};
+ghost use Rattle.std.specs.Io.KnownBytes.{Consumes, IsAtEnd};
 ghost use Rattle.test_tables.specs.Hex.{LineEnd, Within, said, said_of, digits_say, whole_of, bytes_said, pair_of, digit_for};
 ghost use Rattle.limits.specs.Limits.{most_streams};
 
 use announce::Checked;
-use libc::{STDIN_FILENO, STDOUT_FILENO};
 use limits::STREAMS_MOST;
+use std::io;
+use std::io::Read;
 
 // What a line says; a table has so many bytes.
 #[derive(Clone, Copy)]
@@ -19,14 +22,13 @@ enum Line {
 }
 
 // Reads at most 262,143 bytes: no answer is given to an input that may go on.
-fn main() {
+fn main(rt: HostRuntime) -> io::Result<()> {
     let mut text = space();
-    let n = io::read_full(STDIN_FILENO, &mut text);
+    let n = read_full(&mut rt.stdin(), &mut text)?;
     if n == 262144 {
-        say(b"input too long\n");
-        return;
+        return println!(rt; "input too long");
     }
-    answer_lines(&text[..n]);
+    answer_lines(&rt, &text[..n])
 }
 
 // Zeros, one more than the input may have bytes. The `ensures` gives the length, which lending a part needs.
@@ -36,17 +38,35 @@ fn space() -> [u8; 262144]
     [0; 262144]
 }
 
+// Reads until the bytes lent are full or the input ends, and answers how many bytes it read.
+fn read_full<I: Read>(input: &mut I, text: &mut [u8]) -> io::Result<usize>
+    ensures fits { IfOk result (λ n. n ≤ length text.new) }
+    ensures read { IfOk result (λ n. Consumes (I.remaining input.old) (I.remaining input.new) (take n text.new)) }
+    ensures whole { IfOk result (λ n. n < length text.new → IsAtEnd (I.remaining input.new)) }
+{
+    let mut done: usize = 0;
+    while done < text.len() {
+        let n = input.read(&mut text[done..])?;
+        if n == 0 {
+            return Ok(done);
+        }
+        done += n;
+    }
+    Ok(done)
+}
+
 // Each line ends with a line feed or with the text.
-fn answer_lines(text: &[u8]) {
+fn answer_lines(rt: &impl Print, text: &[u8]) -> io::Result<()> {
     let mut at = 0;
     while at < text.len() {
         let end = line_end(text, at);
-        answer_line(&text[at..end]);
+        answer_line(rt, &text[at..end])?;
         if end == text.len() {
-            return;
+            return Ok(());
         }
         at = end + 1;
     }
+    Ok(())
 }
 
 // Where the line that starts at a place ends: at the first line feed, or with the text.
@@ -65,17 +85,18 @@ fn line_end(text: &[u8], at: usize) -> usize
 }
 
 // The bytes lent are more than a table may have, so that one too long is seen to be refused.
-fn answer_line(line: &[u8]) {
+fn answer_line(rt: &impl Print, line: &[u8]) -> io::Result<()> {
     let mut table = [0u8; 8192];
     let said = read_line(line, &mut table);
     match said {
-        Line::Comment => {}
-        Line::Malformed => say_malformed(line),
-        Line::Table(n) => answer_table(&table[..n]),
+        Line::Comment => Ok(()),
+        Line::Malformed => say_malformed(rt, line),
+        Line::Table(n) => answer_table(rt, &table[..n]),
     }
 }
 
 // What a line says; its table is put in front of the bytes lent.
+#[tactic(auto, unfolding(crate::specs::Hex::said_of))]
 fn read_line(line: &[u8], table: &mut [u8]) -> Line
     ensures table_after { said result table.new ≡ said_of (length table.old) line.now }
     ensures within { Within result table.new }
@@ -98,6 +119,7 @@ fn read_line(line: &[u8], table: &mut [u8]) -> Line
 }
 
 // The table that pairs of digits give.
+#[tactic(auto, unfolding(crate::specs::Hex::digits_say))]
 fn read_digits(line: &[u8], table: &mut [u8]) -> Line
     ensures table_after { said result table.new ≡ digits_say (length table.old) line.now }
     ensures within { Within result table.new }
@@ -117,6 +139,7 @@ fn read_digits(line: &[u8], table: &mut [u8]) -> Line
 }
 
 // Whether each of the first `n` pairs is a byte, and where it is so these bytes.
+#[tactic(auto, unfolding(crate::specs::Hex::whole_of, crate::specs::Hex::bytes_said))]
 fn put_bytes(line: &[u8], n: usize, table: &mut [u8]) -> bool
     requires { (2 * n ≤ length line.now) × (n ≤ length table.old) }
     ensures value { result ≡ whole_of line.now n }
@@ -135,6 +158,7 @@ fn put_bytes(line: &[u8], n: usize, table: &mut [u8]) -> bool
 }
 
 // The number of the `i`-th pair of digits.
+#[tactic(auto, unfolding(crate::specs::Hex::pair_of))]
 fn pair_at(line: &[u8], i: usize) -> u16
     requires { 2 * i + 1 < length line.now }
     ensures { result ≡ pair_of line.now i }
@@ -145,6 +169,7 @@ fn pair_at(line: &[u8], i: usize) -> u16
 }
 
 // The number of a digit; 256 for a byte that is none, so that no number with one is a byte's.
+#[tactic(auto, unfolding(crate::specs::Hex::digit_for))]
 fn digit(b: u8) -> u16
     ensures { (result ≡ digit_for b) × (result ≤ 256) }
 {
@@ -166,27 +191,26 @@ fn digit(b: u8) -> u16
 }
 
 // The answer to a table, as a line.
-fn answer_table(table: &[u8]) {
+fn answer_table(rt: &impl Print, table: &[u8]) -> io::Result<()> {
     let checked = announce::check(table);
-    io::print_decimal(STDOUT_FILENO, checked.number as u64);
-    say_spaced(checked.place as u64);
+    print!(rt; "{} {}", checked.number, checked.place)?;
     if checked.number == 0 {
-        say_announced(checked, streams_of(table));
+        say_announced(rt, checked, streams_of(table))?;
     }
-    say(b"\n");
+    println!(rt)
 }
 
 // The numbers of an accepted table.
-fn say_announced(checked: Checked, streams: usize)
+fn say_announced(rt: &impl Print, checked: Checked, streams: usize) -> io::Result<()>
     requires { streams ≤ most_streams }
 {
     let look = checked.look;
     let kept = checked.kept;
-    say_numbers(b" look", &look, streams);
-    say_numbers(b" kept", &kept, streams);
-    say_number(b" words", checked.words as u64);
-    say_number(b" room", checked.room as u64);
-    say_number(b" closing", checked.closing as u64);
+    say_numbers(rt, " look", &look, streams)?;
+    say_numbers(rt, " kept", &kept, streams)?;
+    say_number(rt, " words", checked.words as u64)?;
+    say_number(rt, " room", checked.room as u64)?;
+    say_number(rt, " closing", checked.closing as u64)
 }
 
 // I + O, bytes 2 and 3 of the table.
@@ -198,33 +222,38 @@ fn streams_of(table: &[u8]) -> usize
 }
 
 // A number for each stream.
-fn say_numbers(name: &[u8], numbers: &[u16; STREAMS_MOST], s: usize)
+fn say_numbers(
+    rt: &impl Print,
+    name: &str,
+    numbers: &[u16; STREAMS_MOST],
+    s: usize,
+) -> io::Result<()>
     requires { s ≤ most_streams }
 {
-    say(name);
+    rt.print(name)?;
     let mut v = 0;
     while v < s {
-        say_spaced(wire::short_wide(numbers[v]));
+        say_spaced(rt, wire::short_wide(numbers[v]))?;
         v += 1;
     }
+    Ok(())
 }
 
-fn say_malformed(line: &[u8]) {
-    say(b"malformed: ");
-    say(line);
-    say(b"\n");
+fn say_malformed(rt: &impl Print, line: &[u8]) -> io::Result<()> {
+    rt.print("malformed: ")?;
+    say(rt, line)?;
+    println!(rt)
 }
 
-fn say_number(name: &[u8], x: u64) {
-    say(name);
-    say_spaced(x);
+fn say_number(rt: &impl Print, name: &str, x: u64) -> io::Result<()> {
+    rt.print(name)?;
+    say_spaced(rt, x)
 }
 
-fn say_spaced(x: u64) {
-    say(b" ");
-    io::print_decimal(STDOUT_FILENO, x);
+fn say_spaced(rt: &impl Print, x: u64) -> io::Result<()> {
+    print!(rt; " {x}")
 }
 
-fn say(text: &[u8]) {
-    io::write_all(STDOUT_FILENO, text);
+fn say(rt: &impl Print, text: &[u8]) -> io::Result<()> {
+    rt.write_all(text)
 }

@@ -1,11 +1,15 @@
 // Runs published binary32 vectors (data/README) through the operators on levels (document 01, kinds
 // 2B to 2F), and says of each file how many lines agreed, and which did not.
 #![tactic(auto)]
-ghost use Rattle.std.specs.Prelude.{◌≡◌, ◌+◌, ◌*◌, ◌/◌, ◌^◌, ◌≤◌, length};
+
+ghost use Rattle.std.specs.Prelude.{◌≡◌, ◌+◌, ◌*◌, ◌/◌, ◌^◌, ◌≤◌, ◌<◌, length, take, IfOk};
+ghost use Rattle.std.specs.Io.KnownBytes.{Consumes, IsAtEnd};
 ghost use Rattle.level.specs.Level.{one_nan_of};
 ghost use Rattle.test_vectors.specs.Vectors.{outcome_of, agrees_of, agreed_of, line_of, vector_of, parted_of, result_of, word_at, half_of, digit_for};
 
-use libc::STDOUT_FILENO;
+use std::io::Read;
+use std::rt::Files;
+use std::{fs, io};
 
 // The bytes of a line: two operands and a result of eight digits each, a space between, and the
 // line's end. The result of a comparison is one digit.
@@ -20,27 +24,25 @@ enum Line {
     Malformed,
 }
 
-fn main() {
-    run(b"f32_add.txt", b"add", 0x2b, LEVEL_LINE);
-    run(b"f32_sub.txt", b"sub", 0x2c, LEVEL_LINE);
-    run(b"f32_mul.txt", b"mul", 0x2d, LEVEL_LINE);
-    run(b"f32_div.txt", b"div", 0x2e, LEVEL_LINE);
-    run(b"f32_lt_quiet.txt", b"less", 0x2f, FLAG_LINE);
+fn main(rt: HostRuntime) -> io::Result<()> {
+    run(&rt, "f32_add.txt", "add", 0x2b, LEVEL_LINE)?;
+    run(&rt, "f32_sub.txt", "sub", 0x2c, LEVEL_LINE)?;
+    run(&rt, "f32_mul.txt", "mul", 0x2d, LEVEL_LINE)?;
+    run(&rt, "f32_div.txt", "div", 0x2e, LEVEL_LINE)?;
+    run(&rt, "f32_lt_quiet.txt", "less", 0x2f, FLAG_LINE)
 }
 
-fn run(path: &[u8], name: &[u8], kind: u8, size: usize)
+fn run(rt: &(impl Files + Print), path: &str, name: &str, kind: u8, size: usize) -> io::Result<()>
     requires { 1 ≤ size }
 {
-    let fd = os::open_read(path);
-    if fd < 0 {
-        say(name);
-        say(b" has no file\n");
-        return;
-    }
     let mut text = space();
-    let n = io::read_full(fd, &mut text);
-    libc::close(fd);
-    report(name, kind, size, &text[..n]);
+    match fs::open(rt, path) {
+        Ok(mut file) => {
+            let n = read_full(&mut file, &mut text)?;
+            report(rt, name, kind, size, &text[..n])
+        }
+        Err(_) => println!(rt; "{name} has no file"),
+    }
 }
 
 // Zeros, more than a file has bytes. The `ensures` gives the length, which lending a part needs.
@@ -50,25 +52,51 @@ fn space() -> [u8; 163840]
     [0; 163840]
 }
 
-fn report(name: &[u8], kind: u8, size: usize, text: &[u8])
+// Reads until the bytes lent are full or the input ends, and answers how many bytes it read.
+fn read_full<I: Read>(input: &mut I, text: &mut [u8]) -> io::Result<usize>
+    ensures fits { IfOk result (λ n. n ≤ length text.new) }
+    ensures read { IfOk result (λ n. Consumes (I.remaining input.old) (I.remaining input.new) (take n text.new)) }
+    ensures whole { IfOk result (λ n. n < length text.new → IsAtEnd (I.remaining input.new)) }
+{
+    let mut done: usize = 0;
+    while done < text.len() {
+        let n = input.read(&mut text[done..])?;
+        if n == 0 {
+            return Ok(done);
+        }
+        done += n;
+    }
+    Ok(done)
+}
+
+fn report(rt: &impl Print, name: &str, kind: u8, size: usize, text: &[u8]) -> io::Result<()>
     requires { 1 ≤ size }
 {
-    let agreed = count_agreed(name, kind, size, text);
+    say_refuted(rt, name, kind, size, text)?;
+    let agreed = count_agreed(kind, size, text);
     let lines = text.len() / size;
-    say(name);
-    say(b" ");
-    io::print_decimal(STDOUT_FILENO, agreed);
-    say(b" of ");
-    io::print_decimal(STDOUT_FILENO, lines as u64);
-    say(b" agreed\n");
+    println!(rt; "{name} {agreed} of {lines} agreed")?;
     if text.len() % size != 0 {
-        say(name);
-        say(b" stops inside a line\n");
+        println!(rt; "{name} stops inside a line")?;
     }
+    Ok(())
+}
+
+// Writes out each line that does not agree.
+fn say_refuted(rt: &impl Print, name: &str, kind: u8, size: usize, text: &[u8]) -> io::Result<()>
+    requires { 1 ≤ size }
+{
+    for line in text.chunks_exact(size) {
+        if !agrees(kind, line) {
+            say_line(rt, name, kind, line)?;
+        }
+    }
+    Ok(())
 }
 
 // How many lines of a text agree.
-fn count_agreed(name: &[u8], kind: u8, size: usize, text: &[u8]) -> u64
+#[tactic(auto, unfolding(crate::specs::Vectors::agreed_of))]
+fn count_agreed(kind: u8, size: usize, text: &[u8]) -> u64
     requires { 1 ≤ size }
     ensures { result ≡ agreed_of kind size text.now (length text.now / size) }
 {
@@ -78,7 +106,7 @@ fn count_agreed(name: &[u8], kind: u8, size: usize, text: &[u8]) -> u64
     while i < lines {
         let at = i * size;
         let end = at + size;
-        if agrees(name, kind, &text[at..end]) {
+        if agrees(kind, &text[at..end]) {
             agreed += 1;
         }
         i += 1;
@@ -86,25 +114,13 @@ fn count_agreed(name: &[u8], kind: u8, size: usize, text: &[u8]) -> u64
     agreed
 }
 
-// Whether a line's result is what the operator gives. Where it is not, or the line says nothing,
-// the line is written out.
-fn agrees(name: &[u8], kind: u8, line: &[u8]) -> bool
+// Whether a line's result is what the operator gives; a line that says nothing does not agree.
+fn agrees(kind: u8, line: &[u8]) -> bool
     ensures { result ≡ agrees_of kind (line_of line.now) }
 {
-    let parsed = parse(line);
-    match parsed {
-        Line::Vector(a, b, r) => {
-            let gave = outcome(kind, a, b);
-            let told = one_nan(r);
-            if gave != told {
-                say_differs(name, gave, line);
-            }
-            gave == told
-        }
-        Line::Malformed => {
-            say_malformed(name, line);
-            false
-        }
+    match parse(line) {
+        Line::Vector(a, b, r) => outcome(kind, a, b) == one_nan(r),
+        Line::Malformed => false,
     }
 }
 
@@ -129,24 +145,29 @@ fn one_nan(w: u32) -> u32
     }
 }
 
-fn say_differs(name: &[u8], gave: u32, line: &[u8]) {
-    say(name);
-    say(b" gave ");
-    io::print_hex(STDOUT_FILENO, gave as u64, 8);
-    say(b" for: ");
-    say(line);
+// Writes out a line that does not agree, with what the operator gives for it.
+fn say_line(rt: &impl Print, name: &str, kind: u8, line: &[u8]) -> io::Result<()> {
+    match parse(line) {
+        Line::Vector(a, b, _) => say_differs(rt, name, outcome(kind, a, b), line),
+        Line::Malformed => say_malformed(rt, name, line),
+    }
 }
 
-fn say_malformed(name: &[u8], line: &[u8]) {
-    say(name);
-    say(b" malformed: ");
-    say(line);
+fn say_differs(rt: &impl Print, name: &str, gave: u32, line: &[u8]) -> io::Result<()> {
+    print!(rt; "{name} gave {gave:08x} for: ")?;
+    say(rt, line)
 }
 
-fn say(text: &[u8]) {
-    io::write_all(STDOUT_FILENO, text);
+fn say_malformed(rt: &impl Print, name: &str, line: &[u8]) -> io::Result<()> {
+    print!(rt; "{name} malformed: ")?;
+    say(rt, line)
 }
 
+fn say(rt: &impl Print, text: &[u8]) -> io::Result<()> {
+    rt.write_all(text)
+}
+
+#[tactic(auto, unfolding(crate::specs::Vectors::line_of))]
 fn parse(line: &[u8]) -> Line
     ensures { result ≡ line_of line.now }
 {
@@ -163,6 +184,7 @@ fn parse(line: &[u8]) -> Line
 }
 
 // Three numbers are a vector where each is a word.
+#[tactic(auto, unfolding(crate::specs::Vectors::vector_of))]
 fn vector(a: u64, b: u64, c: u64) -> Line
     ensures { result ≡ vector_of a b c }
 {
@@ -179,6 +201,7 @@ fn vector(a: u64, b: u64, c: u64) -> Line
 }
 
 // Whether a space follows each operand, and the line's end stands last.
+#[tactic(auto, unfolding(crate::specs::Vectors::parted_of))]
 fn parted(line: &[u8]) -> bool
     requires { 20 ≤ length line.now }
     ensures { result ≡ parted_of line.now }
@@ -194,6 +217,7 @@ fn parted(line: &[u8]) -> bool
 }
 
 // The result that the line gives: a level's word, or a flag's digit in the shorter line.
+#[tactic(auto, unfolding(crate::specs::Vectors::result_of))]
 fn result_of(line: &[u8]) -> u64
     requires { 20 ≤ length line.now }
     ensures { result ≡ result_of line.now }
@@ -206,6 +230,7 @@ fn result_of(line: &[u8]) -> u64
 }
 
 // The number of eight digits.
+#[tactic(auto, unfolding(crate::specs::Vectors::word_at))]
 fn word_at(s: &[u8], at: usize) -> u64
     requires { at + 8 ≤ length s.now }
     ensures { result ≡ word_at s.now at }
@@ -216,6 +241,7 @@ fn word_at(s: &[u8], at: usize) -> u64
 }
 
 // The number of four digits.
+#[tactic(auto, unfolding(crate::specs::Vectors::half_of))]
 fn half(s: &[u8], at: usize) -> u64
     requires { at + 4 ≤ length s.now }
     ensures value { result ≡ half_of s.now at }
@@ -229,6 +255,7 @@ fn half(s: &[u8], at: usize) -> u64
 }
 
 // The number of a digit. A byte that is none counts 2^32, so that no number with one is a word.
+#[tactic(auto, unfolding(crate::specs::Vectors::digit_for))]
 fn digit(b: u8) -> u64
     ensures value { result ≡ digit_for b }
     ensures upper_bound { result ≤ 2 ^ 32 }

@@ -1,20 +1,14 @@
 // Waiting without being busy.
 #![tactic(auto)]
 
-use libc::types::timespec;
+use std::rt::Clock;
+use std::thread;
+use std::time::Duration;
 
 // A thousandth of a second, in nanoseconds.
-const MOMENT: i64 = 1000000;
+const MOMENT: u64 = 1000000;
 
 // Waits a moment.
-pub fn pause() {
-    let asked = timespec {
-        tv_sec: 0,
-        tv_nsec: MOMENT,
-    };
-    let mut left = timespec {
-        tv_sec: 0,
-        tv_nsec: 0,
-    };
-    libc::nanosleep(&asked, &mut left);
+pub fn pause(clock: &impl Clock) {
+    thread::sleep(clock, Duration::from_nanos(MOMENT));
 }

@@ -1,6 +1,7 @@
 // Bytes of a lent slice ("Numbers are little-endian", document 01, "The table"), and numbers made wider. A writer takes the place where it
 // starts and answers the place behind. It assumes nothing.
 #![tactic(auto)]
+
 ghost use Rattle.std.specs.Prelude.{◌≡◌, [], ◌∷◌, ◌+◌, ◌≤◌, ◌<◌, ◌^◌, length};
 ghost use Rattle.basis.specs.Written.{Wrote};
 ghost use Rattle.wire.specs.Bytes.{le4, word_of, word_at};

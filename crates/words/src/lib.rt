@@ -1,5 +1,6 @@
 // The words of a table's text in one constant table, which reader and writer go by (request C-12). It assumes nothing.
 #![tactic(auto)]
+
 ghost use Rattle.std.specs.Prelude.{◌≡◌, ◌<◌, length};
 ghost use Rattle.source.specs.Words.{many_words, word_of};
 ghost use Rattle.words.specs.Rows.{Tabulated};

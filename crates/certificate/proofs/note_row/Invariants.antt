@@ -2,14 +2,10 @@
 -- Assumes nothing.
 use mathlib.Core.List.{List}
 use Prim.Native.Nat.{◌-◌, ◌≤◌}
-use native.Mathlib.Omega.{arith}
-use borrow.Author.Rules.{rules}
 use Rattle.basis.specs.Firsts.{of}
 use Rattle.basis.specs.Edges.{Edge, Among}
 use Rattle.certificate.specs.Forgotten.{rises, falls, Forgotten}
 use Rattle.certificate.specs.Tally.{Row, Tally, Upto}
-use Rattle.certificate.proofs.Forgetting.{forgotten_start, forgotten_on, forgotten_end, rise_left, fall_left}
-use Rattle.certificate.proofs.Tally.{row_start, row_end}
 use Rattle.certificate.proofs.note_row.Given as goal
 
 abbrev pub invariant-loop-v : goal.invariant-loop-v

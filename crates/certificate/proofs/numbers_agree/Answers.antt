@@ -1,14 +1,14 @@
 -- `numbers_agree`: the streams below v agree.
 -- Assumes nothing.
 use mathlib.Core.Path.{◌≡◌}
-use mathlib.Core.Logic.{◌⊎◌, inl, inr, ⊎_elim}
-use Prim.Native.Nat.{ℕ, ◌+◌, ◌-◌, ◌<◌, ◌≤◌}
+use mathlib.Core.Logic.{inl, inr}
+use Prim.Native.Nat.{ℕ, ◌+◌}
 use native.Mathlib.Omega.{arith}
 use native.Mathlib.Nat.{not-suc-le-zero}
 use borrow.Author.Rules.{rules}
 use borrow.Author.Count.{below_more}
-use lib.ListN.{get_or}
 use Rattle.certificate.proofs.numbers_agree.Goals as goal
+use Rattle.certificate.proofs.numbers_agree.Goals.{then-look-v-ne0+else-tight-v-eq0, else-look-v-ne0}
 
 other : {r a q b : ℕ} → r ≡ a → q ≡ b → (r ≡ q + 1 → ⊥) → a ≡ b + 1 → ⊥
 other e f h g = h (omega arith)
@@ -26,7 +26,16 @@ pub returns-then-tight-v-eq0 : goal.returns-then-tight-v-eq0
 returns-then-tight-v-eq0 c = record { v = c.loop-v.v; inside = search rules; why = inr (c.if-look-v-ne0.true, c.if-tight-v-eq0.true) }
 
 pub loop-v-preserved : goal.loop-v-preserved
-loop-v-preserved c = (search rules, below_more _ _ c.loop-v.invariant.1 (same c.short_wide.ensures.0 c.word_wide.ensures.0 c.if-short_wide-word_wide.false, ⊎_elim (λ w. inr w.t24-1.false) (λ w. inl w.left) c.if-look-v-ne0.branch-raw))
+loop-v-preserved c = (
+  search rules,
+  below_more _ _ c.loop-v.invariant.1 (
+    same c.short_wide.ensures.0 c.word_wide.ensures.0 c.if-short_wide-word_wide.false,
+    elim c.if-look-v-ne0.branch [
+      | then-look-v-ne0+else-tight-v-eq0 w ↦ inr w.if-tight-v-eq0.false
+      | else-look-v-ne0 w ↦ inl w.if-look-v-ne0.false
+    ],
+  ),
+)
 
 pub returns : goal.returns
 returns c = record { keeps = λ v l. (c.loop-v.invariant.1 v (omega arith)).0; reached = λ v l. (c.loop-v.invariant.1 v (omega arith)).1 }

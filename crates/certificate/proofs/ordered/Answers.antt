@@ -1,10 +1,9 @@
 -- `ordered`: the first n streams of the line stand.
 -- Assumes nothing.
-use Prim.Native.Nat.{◌-◌}
 use native.Mathlib.Omega.{arith}
 use borrow.Author.Rules.{rules}
 use Rattle.certificate.proofs.Mask.{full}
-use Rattle.certificate.proofs.Line.{Way, way_start, way_step, way_end, way_stuck}
+use Rattle.certificate.proofs.Line.{way_start, way_step, way_end, way_stuck}
 use Rattle.certificate.proofs.ordered.Goals as goal
 
 pub loop-n-init : goal.loop-n-init

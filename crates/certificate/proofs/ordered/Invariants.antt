@@ -1,10 +1,7 @@
 -- `ordered`: the first n streams of the line stand.
 -- Assumes nothing.
 use Prim.Native.Nat.{◌-◌}
-use native.Mathlib.Omega.{arith}
-use borrow.Author.Rules.{rules}
-use Rattle.certificate.proofs.Mask.{full}
-use Rattle.certificate.proofs.Line.{Way, way_start, way_step, way_end, way_stuck}
+use Rattle.certificate.proofs.Line.{Way}
 use Rattle.certificate.proofs.ordered.Given as goal
 
 abbrev pub invariant-loop-n : goal.invariant-loop-n

@@ -1,12 +1,7 @@
 -- `ready`: no stream of the rest below y is ready.
 -- Assumes nothing.
 use mathlib.Core.Path.{◌≡◌}
-use mathlib.Core.Logic.{⊎_elim}
 use Prim.Native.Nat.{ℕ, ◌-◌, ◌<◌, ◌≤◌}
-use native.Mathlib.Omega.{arith}
-use native.Mathlib.Nat.{not-suc-le-zero}
-use borrow.Author.Rules.{rules}
-use borrow.Author.Count.{below_more}
 use lib.ListN.{get_or}
 use lib.Bits.{bit_and}
 use Rattle.certificate.specs.Tally.{bit}

@@ -1,7 +1,6 @@
 -- `settle`: where the numbers agree, the line of the streams decides.
 -- Assumes nothing.
 use Rattle.certificate.proofs.Verdict.{settle_line, settle_amiss}
-use borrow.Author.Rules.{rules}
 use Rattle.certificate.proofs.settle.Goals as goal
 
 pub returns-then-numbers_agree : goal.returns-then-numbers_agree

@@ -1,7 +1,6 @@
 -- `note`: both notes raised.
 -- Assumes nothing.
 use Rattle.expression.proofs.Noting.{noted_both}
-use borrow.Author.Rules.{rules}
 use Rattle.expression.proofs.note.Goals as goal
 
 pub returns : goal.returns

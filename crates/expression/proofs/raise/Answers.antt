@@ -1,7 +1,6 @@
 -- `raise`, by the test.
 -- Assumes nothing.
 use Rattle.expression.proofs.Noting.{raised_put, raised_left}
-use borrow.Author.Rules.{rules}
 use Rattle.expression.proofs.raise.Goals as goal
 
 pub returns-then-seen-v : goal.returns-then-seen-v

@@ -2,7 +2,6 @@
 -- Assumes nothing.
 use mathlib.Core.Path.{sym, ◌∙◌}
 use native.Mathlib.Omega.{arith}
-use borrow.Author.Rules.{rules}
 use Rattle.expression.proofs.scan_expr.Goals as goal
 
 pub scan_leaf-requires : goal.scan_leaf-requires

@@ -2,6 +2,8 @@
 -- Assumes nothing.
 use mathlib.Core.Path.{refl, ap, sym, ◌∙◌}
 use Prim.Native.Nat.{ℕ, ◌+◌}
+use mir.Syntax.{w8}
+use mir.Val.{SFits}
 use mir.Facts.{to_z-of_z}
 use Rattle.node.specs.Kinds.{rule_of}
 use Rattle.node.proofs.Standing.{body_found}
@@ -48,13 +50,13 @@ pub refused-requires-in-Operator : goal.refused-requires-in-Operator
 refused-requires-in-Operator c = omega (arith, leaf_within c.args.table.now c.args.at c.requires.1, c.requires.0.few)
 
 pub returns-in-Constant : goal.returns-in-Constant
-returns-in-Constant c = λ ts l x. leaf_scans l ts _ _ _ (leaf_read c.args.table.now c.args.at c.requires.1 (body_found _ _ _ c.byte_size-2.ensures.0 c.leaf_body.ensures c.node_of-node.ensures c.requires.1) (leaf_room c.args.table.now c.args.at c.requires.1 (c.body_of-body.ensures.0 ∙ ap (λ (n : ℕ). (rule_of n).body) c.byte_size.ensures.0) c.if-table-start.false) (sym c.node_of-node.ensures ∙ c.node-1.given.1)) (leaf_is c.args.table.now c.args.at c.requires.1 (sym c.node_of-node.ensures ∙ c.node-1.given.1)) (omega (arith, leaf_within c.args.table.now c.args.at c.requires.1)) (omega (arith, leaf_whole c.args.table.now c.args.at c.requires.1 (body_found _ _ _ c.byte_size-2.ensures.0 c.leaf_body.ensures c.node_of-node.ensures c.requires.1) (leaf_room c.args.table.now c.args.at c.requires.1 (c.body_of-body.ensures.0 ∙ ap (λ (n : ℕ). (rule_of n).body) c.byte_size.ensures.0) c.if-table-start.false))) (constant_leaf (c.scan_constant.ensures ts) x)
+returns-in-Constant c = λ ts l x. leaf_scans l ts _ _ _ (leaf_read c.args.table.now c.args.at c.requires.1 (body_found _ _ _ c.byte_size-2.ensures.0 c.leaf_body.ensures c.node_of-node.ensures c.requires.1) (leaf_room c.args.table.now c.args.at c.requires.1 (c.body_of-body.ensures.0 ∙ ap (λ (n : ℕ). (rule_of n).body) c.byte_size.ensures.0) c.if-table-start.false) (sym c.node_of-node.ensures ∙ c.in-Constant.is)) (leaf_is c.args.table.now c.args.at c.requires.1 (sym c.node_of-node.ensures ∙ c.in-Constant.is)) (omega (arith, leaf_within c.args.table.now c.args.at c.requires.1)) (omega (arith, leaf_whole c.args.table.now c.args.at c.requires.1 (body_found _ _ _ c.byte_size-2.ensures.0 c.leaf_body.ensures c.node_of-node.ensures c.requires.1) (leaf_room c.args.table.now c.args.at c.requires.1 (c.body_of-body.ensures.0 ∙ ap (λ (n : ℕ). (rule_of n).body) c.byte_size.ensures.0) c.if-table-start.false))) (constant_leaf (c.scan_constant.ensures ts) x)
 
 pub returns-in-Now : goal.returns-in-Now
-returns-in-Now c = λ ts l x. leaf_scans l ts _ _ _ (leaf_read c.args.table.now c.args.at c.requires.1 (body_found _ _ _ c.byte_size-2.ensures.0 c.leaf_body.ensures c.node_of-node.ensures c.requires.1) (leaf_room c.args.table.now c.args.at c.requires.1 (c.body_of-body.ensures.0 ∙ ap (λ (n : ℕ). (rule_of n).body) c.byte_size.ensures.0) c.if-table-start.false) (sym c.node_of-node.ensures ∙ c.node-in-Now-1.given.1)) (leaf_is c.args.table.now c.args.at c.requires.1 (sym c.node_of-node.ensures ∙ c.node-in-Now-1.given.1)) (omega (arith, leaf_within c.args.table.now c.args.at c.requires.1)) (omega (arith, leaf_whole c.args.table.now c.args.at c.requires.1 (body_found _ _ _ c.byte_size-2.ensures.0 c.leaf_body.ensures c.node_of-node.ensures c.requires.1) (leaf_room c.args.table.now c.args.at c.requires.1 (c.body_of-body.ensures.0 ∙ ap (λ (n : ℕ). (rule_of n).body) c.byte_size.ensures.0) c.if-table-start.false))) (c.scan_now.ensures ts x)
+returns-in-Now c = λ ts l x. leaf_scans l ts _ _ _ (leaf_read c.args.table.now c.args.at c.requires.1 (body_found _ _ _ c.byte_size-2.ensures.0 c.leaf_body.ensures c.node_of-node.ensures c.requires.1) (leaf_room c.args.table.now c.args.at c.requires.1 (c.body_of-body.ensures.0 ∙ ap (λ (n : ℕ). (rule_of n).body) c.byte_size.ensures.0) c.if-table-start.false) (sym c.node_of-node.ensures ∙ c.in-Now.is)) (leaf_is c.args.table.now c.args.at c.requires.1 (sym c.node_of-node.ensures ∙ c.in-Now.is)) (omega (arith, leaf_within c.args.table.now c.args.at c.requires.1)) (omega (arith, leaf_whole c.args.table.now c.args.at c.requires.1 (body_found _ _ _ c.byte_size-2.ensures.0 c.leaf_body.ensures c.node_of-node.ensures c.requires.1) (leaf_room c.args.table.now c.args.at c.requires.1 (c.body_of-body.ensures.0 ∙ ap (λ (n : ℕ). (rule_of n).body) c.byte_size.ensures.0) c.if-table-start.false))) (c.scan_now.ensures ts x)
 
 pub returns-in-At : goal.returns-in-At
-returns-in-At c = λ ts l x. leaf_scans l ts _ _ _ (leaf_read c.args.table.now c.args.at c.requires.1 (body_found _ _ _ c.byte_size-2.ensures.0 c.leaf_body.ensures c.node_of-node.ensures c.requires.1) (leaf_room c.args.table.now c.args.at c.requires.1 (c.body_of-body.ensures.0 ∙ ap (λ (n : ℕ). (rule_of n).body) c.byte_size.ensures.0) c.if-table-start.false) (sym c.node_of-node.ensures ∙ c.node-in-At-1.given.1)) (leaf_is c.args.table.now c.args.at c.requires.1 (sym c.node_of-node.ensures ∙ c.node-in-At-1.given.1)) (omega (arith, leaf_within c.args.table.now c.args.at c.requires.1)) (omega (arith, leaf_whole c.args.table.now c.args.at c.requires.1 (body_found _ _ _ c.byte_size-2.ensures.0 c.leaf_body.ensures c.node_of-node.ensures c.requires.1) (leaf_room c.args.table.now c.args.at c.requires.1 (c.body_of-body.ensures.0 ∙ ap (λ (n : ℕ). (rule_of n).body) c.byte_size.ensures.0) c.if-table-start.false))) (rw (to_z-of_z (record { sfits = c.known_told-in-At-1.given.1.0.1 })) at (c.scan_at.ensures ts x))
+returns-in-At c = λ ts l x. leaf_scans l ts _ _ _ (leaf_read c.args.table.now c.args.at c.requires.1 (body_found _ _ _ c.byte_size-2.ensures.0 c.leaf_body.ensures c.node_of-node.ensures c.requires.1) (leaf_room c.args.table.now c.args.at c.requires.1 (c.body_of-body.ensures.0 ∙ ap (λ (n : ℕ). (rule_of n).body) c.byte_size.ensures.0) c.if-table-start.false) (sym c.node_of-node.ensures ∙ c.in-At.is)) (leaf_is c.args.table.now c.args.at c.requires.1 (sym c.node_of-node.ensures ∙ c.in-At.is)) (omega (arith, leaf_within c.args.table.now c.args.at c.requires.1)) (omega (arith, leaf_whole c.args.table.now c.args.at c.requires.1 (body_found _ _ _ c.byte_size-2.ensures.0 c.leaf_body.ensures c.node_of-node.ensures c.requires.1) (leaf_room c.args.table.now c.args.at c.requires.1 (c.body_of-body.ensures.0 ∙ ap (λ (n : ℕ). (rule_of n).body) c.byte_size.ensures.0) c.if-table-start.false))) (let fits : SFits w8 c.in-At.k = search rules in rw (to_z-of_z fits) at (c.scan_at.ensures ts x))
 
 pub returns-in-Operator : goal.returns-in-Operator
-returns-in-Operator c = operator_leaf _ (leaf_is c.args.table.now c.args.at c.requires.1 (sym c.node_of-node.ensures ∙ c.enum_told-1.given.1))
+returns-in-Operator c = operator_leaf _ (leaf_is c.args.table.now c.args.at c.requires.1 (sym c.node_of-node.ensures ∙ c.in-Operator.is))

@@ -7,7 +7,6 @@ use Rattle.basis.specs.Rows.{entry}
 use Rattle.expression.specs.Seen.{seen_type}
 use Rattle.expression.proofs.Notes.{rising_now, falling_now}
 use Rattle.expression.proofs.Noting.{now_far, now_other, now_fine}
-use borrow.Author.Rules.{rules}
 use Rattle.expression.proofs.scan_now.Goals as goal
 
 pub returns-then-i-ge-STREAMS_MOST : goal.returns-then-i-ge-STREAMS_MOST

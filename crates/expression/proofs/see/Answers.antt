@@ -1,11 +1,7 @@
 -- `see`: the rows of the first v streams have their types.
 -- Assumes nothing.
 use mathlib.Core.Path.{◌≡◌}
-use Prim.Native.Nat.{◌-◌, ◌≤◌}
 use native.Mathlib.Omega.{arith}
-use borrow.Author.Rules.{rules}
-use lib.ListN.{take}
-use Rattle.expression.specs.Seen.{fresh}
 use Rattle.expression.proofs.Seeing.{see_start, see_more}
 use Rattle.expression.proofs.see.Goals as goal
 

@@ -2,11 +2,8 @@
 -- Assumes nothing.
 use mathlib.Core.Path.{◌≡◌}
 use Prim.Native.Nat.{◌-◌, ◌≤◌}
-use native.Mathlib.Omega.{arith}
-use borrow.Author.Rules.{rules}
 use lib.ListN.{take}
 use Rattle.expression.specs.Seen.{fresh}
-use Rattle.expression.proofs.Seeing.{see_start, see_more}
 use Rattle.expression.proofs.see.Given as goal
 
 abbrev pub invariant-loop-v : goal.invariant-loop-v
