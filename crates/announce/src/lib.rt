@@ -1,6 +1,7 @@
 // The check of a table (document 01): from its bytes to look-ahead, kept values, store words, room and closing turns, or to the number
 // and the place of the refusal. It assumes nothing.
 #![tactic(auto)]
+
 ghost use Rattle.std.specs.Prelude.{◌≡◌, ℕ, ◌+◌, ◌-◌, ◌*◌, ◌<◌, length, get_or};
 ghost use Rattle.limits.specs.Limits.{most_streams, most_pairs};
 ghost use Rattle.basis.specs.Rows.{column};
