@@ -28,9 +28,6 @@ entry rows r i t h k =
 left_at : {w text : List ℕ} {at far : ℕ} → Parts w (drop at (ended text)) far → Lost (word w) text at (at + far)
 left_at {far = far} h = record { far = far; place = refl; leaves = record { near = tt; goes = h; others = λ x. record { at = far; early = omega arith; parts = h } } }
 
-parts_of : {w text : List ℕ} {at p : ℕ} → Lost (word w) text at p → (far : ℕ) × (p ≡ at + far) × Parts w (drop at (ended text)) far
-parts_of h = (h.far, h.place, h.leaves.goes)
-
 -- the byte at a place is another one than the word's first
 other_first : (w text : List ℕ) (at : ℕ) → 1 ≤ length w → at ≤ length text → (byte_at text at ≡ get_or w 0 0 → ⊥) → Lost (word w) text at at
 other_first [] text at l h n = absurd (omega arith)
