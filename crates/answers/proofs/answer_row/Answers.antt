@@ -10,11 +10,11 @@ use Rattle.answers.proofs.Answers.{row_count, reached_by}
 use Rattle.answers.proofs.answer_row.Goals as goal
 
 pub slice_bounds-row-end : goal.slice_bounds-row-end
-slice_bounds-row-end c = let e : length c.row_words.new.1.1.1.0 ≡ 32 = search rules in
+slice_bounds-row-end c = let e : length c.row_words.new.words ≡ 32 = search rules in
     sym (length-take-le _ _ (omega arith))
 
 pub put_answer-end-requires : goal.put_answer-end-requires
-put_answer-end-requires c = let e : length c.row-answer.new.1.1.1.1.0 ≡ most_room = search rules in
+put_answer-end-requires c = let e : length c.row-answer.new.out ≡ most_room = search rules in
     let h : c.row-answer.result.count ≤ most_room = row_count _ _ _ _ _ e c.row-answer.ensures in
     omega arith
 

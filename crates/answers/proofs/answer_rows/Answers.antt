@@ -42,14 +42,14 @@ pub shape_of-text-else-text-at-ge-TEXT_MOST : goal.shape_of-text-else-text-at-ge
 shape_of-text-else-text-at-ge-TEXT_MOST c = c.loop-used.invariant.0.reached.wrote.size
 
 pub returns-else-text-at-ge-TEXT_MOST : goal.returns-else-text-at-ge-TEXT_MOST
-returns-else-text-at-ge-TEXT_MOST c = (
-  c.loop-used.invariant.0.reached,
-  record {
+returns-else-text-at-ge-TEXT_MOST c = record {
+  reached = c.loop-used.invariant.0.reached;
+  taken = record {
     used_is = c.loop-used.invariant.0.used_is;
     whole = c.loop-used.invariant.0.whole;
     some = λ h. omega (arith, leb-false, rows_silent c.loop-used.invariant.0 h, c.loop-used.invariant.0.reached.wrote.size);
-  },
-)
+  };
+}
 
 pub shape_of-store-after-loop-used : goal.shape_of-store-after-loop-used
 shape_of-store-after-loop-used c = c.loop-used.invariant.2
@@ -58,11 +58,11 @@ pub shape_of-text-after-loop-used : goal.shape_of-text-after-loop-used
 shape_of-text-after-loop-used c = c.loop-used.invariant.0.reached.wrote.size
 
 pub returns-after-loop-used : goal.returns-after-loop-used
-returns-after-loop-used c = (
-  c.loop-used.invariant.0.reached,
-  record {
+returns-after-loop-used c = record {
+  reached = c.loop-used.invariant.0.reached;
+  taken = record {
     used_is = c.loop-used.invariant.0.used_is;
     whole = c.loop-used.invariant.0.whole;
     some = λ h. omega (arith, c.loop-used-test.false);
-  },
-)
+  };
+}

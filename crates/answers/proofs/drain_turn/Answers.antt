@@ -9,7 +9,7 @@ use Rattle.answers.proofs.Answers.{drain_count, reached_by}
 use Rattle.answers.proofs.drain_turn.Goals as goal
 
 pub put_answer-end-requires : goal.put_answer-end-requires
-put_answer-end-requires c = let e : length c.drain-answer.new.1.1.1.0 ≡ most_room = search rules in
+put_answer-end-requires c = let e : length c.drain-answer.new.out ≡ most_room = search rules in
     let h : c.drain-answer.result.count ≤ most_room = drain_count _ _ _ _ e c.drain-answer.ensures in
     omega arith
 

@@ -34,7 +34,7 @@ pub shape_of-text-else-is_draining : goal.shape_of-text-else-is_draining
 shape_of-text-else-is_draining c = c.loop-turns.invariant.0.wrote.size
 
 pub returns-else-is_draining : goal.returns-else-is_draining
-returns-else-is_draining c = (c.loop-turns.invariant.0, record { each = c.loop-turns.invariant.3.each; some = λ z. drains_left _ _ _ c.loop-turns.invariant.0 (sym c.is_draining.ensures ∙ c.if-is_draining.false) z })
+returns-else-is_draining c = record { reached = c.loop-turns.invariant.0; drains = record { each = c.loop-turns.invariant.3.each; some = λ z. drains_left _ _ _ c.loop-turns.invariant.0 (sym c.is_draining.ensures ∙ c.if-is_draining.false) z } }
 
 pub shape_of-store-else-text-at-ge-TEXT_MOST : goal.shape_of-store-else-text-at-ge-TEXT_MOST
 shape_of-store-else-text-at-ge-TEXT_MOST c = c.loop-turns.invariant.2
@@ -43,7 +43,7 @@ pub shape_of-text-else-text-at-ge-TEXT_MOST : goal.shape_of-text-else-text-at-ge
 shape_of-text-else-text-at-ge-TEXT_MOST c = c.loop-turns.invariant.0.wrote.size
 
 pub returns-else-text-at-ge-TEXT_MOST : goal.returns-else-text-at-ge-TEXT_MOST
-returns-else-text-at-ge-TEXT_MOST c = (c.loop-turns.invariant.0, record { each = c.loop-turns.invariant.3.each; some = λ z. absurd (omega (arith, leb-false, drains_silent _ _ _ refl c.loop-turns.invariant.0 z, c.loop-turns.invariant.0.wrote.size)) })
+returns-else-text-at-ge-TEXT_MOST c = record { reached = c.loop-turns.invariant.0; drains = record { each = c.loop-turns.invariant.3.each; some = λ z. absurd (omega (arith, leb-false, drains_silent _ _ _ refl c.loop-turns.invariant.0 z, c.loop-turns.invariant.0.wrote.size)) } }
 
 pub shape_of-store-after-loop-turns : goal.shape_of-store-after-loop-turns
 shape_of-store-after-loop-turns c = c.loop-turns.invariant.2
@@ -52,4 +52,4 @@ pub shape_of-text-after-loop-turns : goal.shape_of-text-after-loop-turns
 shape_of-text-after-loop-turns c = c.loop-turns.invariant.0.wrote.size
 
 pub returns-after-loop-turns : goal.returns-after-loop-turns
-returns-after-loop-turns c = (c.loop-turns.invariant.0, record { each = c.loop-turns.invariant.3.each; some = λ z. absurd (omega (arith, c.loop-turns-test.false, z)) })
+returns-after-loop-turns c = record { reached = c.loop-turns.invariant.0; drains = record { each = c.loop-turns.invariant.3.each; some = λ z. absurd (omega (arith, c.loop-turns-test.false, z)) } }

@@ -9,10 +9,10 @@ pub slice_bounds-head_of-end-2 : goal.slice_bounds-head_of-end-2
 slice_bounds-head_of-end-2 c = sym (length-take-le _ _ (omega arith))
 
 pub returns-in-Stopped : goal.returns-in-Stopped
-returns-in-Stopped c = head_stopped c.hold.ensures (sym c.head_of-found.ensures ∙ c.enum_told-1.given.1) c.advanced.ensures
+returns-in-Stopped c = head_stopped c.hold.ensures (sym c.in-Stopped.ensures) c.advanced.ensures
 
 pub returns-in-Refused : goal.returns-in-Refused
-returns-in-Refused c = head_refused c.hold.ensures (sym c.head_of-found.ensures ∙ c.found-1.given.1) c.put_refusal_line-at.ensures c.advanced-in-Refused.ensures
+returns-in-Refused c = head_refused c.hold.ensures (sym c.in-Refused.ensures) c.put_refusal_line-at.ensures c.advanced-in-Refused.ensures
 
 pub returns-in-Table : goal.returns-in-Table
-returns-in-Table c = head_tabled c.hold.ensures (sym c.head_of-found.ensures ∙ c.found-in-Table-1.given.1) c.advanced-in-Table.ensures
+returns-in-Table c = head_tabled c.hold.ensures (sym c.in-Table.ensures) c.advanced-in-Table.ensures

@@ -45,4 +45,4 @@ pub advanced-requires-2 : goal.advanced-requires-2
 advanced-requires-2 c = omega (arith, c.least-n.ensures.1, c.requires.5)
 
 pub returns : goal.returns
-returns c = row_taken c.hold.ensures (c.least-n.ensures.2 (omega (arith, c.requires.2, c.inputs_of-inputs.ensures.0)) (omega (arith, c.requires.4))) c.inputs_of-inputs.ensures.0 refl (omega (arith, c.requires.2, c.inputs_of-inputs.ensures.0, c.least-n.ensures.0, c.if-have-n.false)) (length-take-le _ _ (omega (arith, c.requires.3, c.inputs_of-inputs.ensures.2))) c.answer_rows-fed.ensures.1 c.answer_rows-fed.ensures.0 c.advanced-2.ensures
+returns c = row_taken c.hold.ensures (c.least-n.ensures.2 (omega (arith, c.requires.2, c.inputs_of-inputs.ensures.0)) (omega (arith, c.requires.4))) c.inputs_of-inputs.ensures.0 refl (omega (arith, c.requires.2, c.inputs_of-inputs.ensures.0, c.least-n.ensures.0, c.if-have-n.false)) (length-take-le _ _ (omega (arith, c.requires.3, c.inputs_of-inputs.ensures.2))) c.answer_rows-fed.ensures.taken c.answer_rows-fed.ensures.reached c.advanced-2.ensures

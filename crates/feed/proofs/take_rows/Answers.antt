@@ -22,4 +22,4 @@ pub answer_rows-fed-requires : goal.answer_rows-fed-requires
 answer_rows-fed-requires c = (c.inputs_of-inputs.ensures.1, c.inputs_of-inputs.ensures.2, omega arith)
 
 pub returns : goal.returns
-returns c = rows_taken (omega (arith, c.then-have-gt0.false)) c.inputs_of-inputs.ensures.0 (ltb-false _ _ c.if-piece-inputs.false-raw) c.answer_rows-fed.ensures.1 c.answer_rows-fed.ensures.0 c.advanced.ensures
+returns c = rows_taken (omega (arith, c.if-have-gt0.false)) c.inputs_of-inputs.ensures.0 c.if-piece-inputs.false c.answer_rows-fed.ensures.taken c.answer_rows-fed.ensures.reached c.advanced.ensures
