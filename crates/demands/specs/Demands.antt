@@ -1,8 +1,8 @@
 -- THE PAGE TO READ: demands 2 and 3, in the customer's words, over the definitions that the functions' contracts cite (`announced`,
 -- `open_call`, `row_call_of`, `close_call`, `drain_call_of`) and over source 004's evaluation model. The theorems are `demand_2` and `demand_3`.
 -- Assumes nothing.
-use Rattle.std.specs.Prelude.{ℕ, ◌+◌, ◌≤◌, ◌<◌, ◌≡◌, true, false, ◌⊎◌, length, get_or, drop}
-use mathlib.Core.List.{List, [], ◌∷◌, ◌++◌, map, flatten}
+use Rattle.std.specs.Prelude.{ℕ, ◌+◌, ◌≤◌, ◌<◌, ◌≡◌, true, false, ◌⊎◌, List, [], ◌∷◌, ◌++◌, map, length, get_or, drop}
+use mathlib.Core.List.{flatten}
 use Rattle.limits.specs.Limits.{most_rows}
 use Rattle.wire.specs.Bytes.{AllBytes, AllWords}
 use Rattle.records.specs.Reading.{read_items, read_back_of, items_given}

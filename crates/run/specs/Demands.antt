@@ -1,7 +1,7 @@
 -- Demands 2 and 3 over any plan (document 01, "What the contracts must exclude"). Demand 3 speaks of demand 2's model.
 -- Assumes nothing.
-use Rattle.std.specs.Prelude.{ℕ, ◌+◌, ◌≤◌, ◌<◌, ◌⊎◌, ◌≡◌, true, false, ◌&&◌, cond, eqb, length, get_or, drop}
-use mathlib.Core.List.{List, [], ◌∷◌, ◌++◌, flatten}
+use Rattle.std.specs.Prelude.{ℕ, ◌+◌, ◌≤◌, ◌<◌, ◌⊎◌, ◌≡◌, true, false, ◌&&◌, cond, List, [], ◌∷◌, ◌++◌, eqb, length, get_or, drop}
+use mathlib.Core.List.{flatten}
 use Rattle.lola.specs.Expressions.{Spec}
 use Rattle.lola.specs.Models.{Model, OneModel, trace}
 use Rattle.basis.specs.Given.{Given}

@@ -1,12 +1,11 @@
 -- The loop's invariant: some rows have been answered, each whole. The measure is the number of bytes left.
 -- Assumes nothing.
-use Prim.Native.Nat.{◌*◌, ◌-◌}
+use Prim.Native.Nat.{◌-◌}
 use borrow.Author.Rules.{rules}
 use borrow.Author.Tests.{leb-true, leb-false}
 use native.Mathlib.Omega.{arith}
-use mathlib.Core.Path.{◌≡◌, refl}
-use lib.ListN.{length}
-use Rattle.answers.proofs.Turns.{Rowed, rows_none, rows_more, rows_fit, rows_silent}
+use mathlib.Core.Path.{refl}
+use Rattle.answers.proofs.Turns.{rows_none, rows_more, rows_fit, rows_silent}
 use Rattle.answers.proofs.answer_rows.Goals as goal
 
 pub overflow_mul-size : goal.overflow_mul-size

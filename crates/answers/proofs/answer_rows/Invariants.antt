@@ -1,12 +1,9 @@
 -- The loop's invariant: some rows have been answered, each whole. The measure is the number of bytes left.
 -- Assumes nothing.
 use Prim.Native.Nat.{◌*◌, ◌-◌}
-use borrow.Author.Rules.{rules}
-use borrow.Author.Tests.{leb-true, leb-false}
-use native.Mathlib.Omega.{arith}
-use mathlib.Core.Path.{◌≡◌, refl}
+use mathlib.Core.Path.{◌≡◌}
 use lib.ListN.{length}
-use Rattle.answers.proofs.Turns.{Rowed, rows_none, rows_more, rows_fit, rows_silent}
+use Rattle.answers.proofs.Turns.{Rowed}
 use Rattle.answers.proofs.answer_rows.Given as goal
 
 abbrev pub invariant-loop-used : goal.invariant-loop-used

@@ -1,14 +1,12 @@
 -- The loop's invariant: so many closing turns are done. The measure is what is left of the bound on their number.
 -- Assumes nothing.
-use Prim.Native.Nat.{◌≤◌, ◌-◌}
+use Prim.Native.Nat.{◌-◌}
 use borrow.Author.Rules.{rules}
 use borrow.Author.Tests.{leb-true, leb-false}
 use native.Mathlib.Omega.{arith}
-use mathlib.Core.Path.{◌≡◌, refl, sym, ◌∙◌}
-use lib.ListN.{length}
-use Rattle.answers.specs.Rows.{begun, after_drains, Reached}
+use mathlib.Core.Path.{refl, sym, ◌∙◌}
 use Rattle.lines.proofs.Lengths.{wrote_within}
-use Rattle.answers.proofs.Turns.{drains_none, drains_more, Going, going_none, going_more, drains_silent, drains_left}
+use Rattle.answers.proofs.Turns.{drains_none, drains_more, going_none, going_more, drains_silent, drains_left}
 use Rattle.answers.proofs.drain_turns.Goals as goal
 
 pub loop-turns-init : goal.loop-turns-init

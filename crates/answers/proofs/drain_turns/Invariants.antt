@@ -1,14 +1,10 @@
 -- The loop's invariant: so many closing turns are done. The measure is what is left of the bound on their number.
 -- Assumes nothing.
 use Prim.Native.Nat.{◌≤◌, ◌-◌}
-use borrow.Author.Rules.{rules}
-use borrow.Author.Tests.{leb-true, leb-false}
-use native.Mathlib.Omega.{arith}
-use mathlib.Core.Path.{◌≡◌, refl, sym, ◌∙◌}
+use mathlib.Core.Path.{◌≡◌}
 use lib.ListN.{length}
 use Rattle.answers.specs.Rows.{begun, after_drains, Reached}
-use Rattle.lines.proofs.Lengths.{wrote_within}
-use Rattle.answers.proofs.Turns.{drains_none, drains_more, Going, going_none, going_more, drains_silent, drains_left}
+use Rattle.answers.proofs.Turns.{Going}
 use Rattle.answers.proofs.drain_turns.Given as goal
 
 abbrev pub invariant-loop-turns : goal.invariant-loop-turns

@@ -1,5 +1,4 @@
 -- The lines or the refusal's line. Assumes nothing.
-use borrow.Author.Rules.{rules}
 use Rattle.basis.proofs.Written.{wrote_as}
 use Rattle.answers.proofs.Answers.{accepted_text, refused_text}
 use Rattle.answers.proofs.put_answer.Goals as goal

@@ -1,12 +1,9 @@
 -- The loop's invariant: the first i words of the row stand in the first i words lent. The measure is the number of words left.
 -- Assumes nothing.
 use Prim.Native.Nat.{◌≤◌, ◌-◌}
-use native.Mathlib.Omega.{arith}
-use native.Mathlib.Nat.{le_antisymm}
-use mathlib.Core.Path.{◌≡◌, refl}
-use lib.ListN.{length, take, length-set}
+use mathlib.Core.Path.{◌≡◌}
+use lib.ListN.{length, take}
 use Rattle.answers.specs.Words.{words_at}
-use Rattle.answers.proofs.Words.{words_none, words_more}
 use Rattle.answers.proofs.row_words.Given as goal
 
 abbrev pub invariant-loop-i : goal.invariant-loop-i

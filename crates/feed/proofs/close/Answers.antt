@@ -3,7 +3,6 @@ use native.Mathlib.Omega.{arith}
 use mathlib.Core.Path.{sym}
 use lib.Seq.{length-take-le}
 use Rattle.feed.proofs.Stepping.{closes_whole, closes_part}
-use borrow.Author.Rules.{rules}
 use Rattle.feed.proofs.close.Goals as goal
 
 pub slice_bounds-close-end : goal.slice_bounds-close-end

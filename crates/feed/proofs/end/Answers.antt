@@ -1,7 +1,6 @@
 -- The input ends in each stage. Assumes nothing.
 use native.Mathlib.Omega.{arith}
 use Rattle.feed.proofs.Stepping.{whole_within, at_rows, ends_head, ends_table, ends_rows, ends_shut}
-use borrow.Author.Rules.{rules}
 use Rattle.feed.proofs.end.Goals as goal
 
 pub close-requires : goal.close-requires

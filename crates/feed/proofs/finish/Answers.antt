@@ -3,7 +3,6 @@ use mathlib.Core.Path.{sym, ◌∙◌}
 use lib.Seq.{length-take-le}
 use Rattle.feed.proofs.Stepping.{whole_within}
 use Rattle.feed.proofs.Finishing.{finishes_turns, finishes_last}
-use borrow.Author.Rules.{rules}
 use Rattle.feed.proofs.finish.Goals as goal
 
 pub slice_bounds-drain_turns-end : goal.slice_bounds-drain_turns-end

@@ -1,5 +1,4 @@
 -- Each return is a case of the definition. Assumes nothing.
-use borrow.Author.Rules.{rules}
 use Rattle.feed.proofs.Heads.{head_empty, head_other, head_short, head_whole, length_none, length_over, length_fine}
 use Rattle.feed.proofs.head_of.Goals as goal
 

@@ -1,11 +1,10 @@
 -- The loop's invariant: the first i bytes of the piece stand behind those held. The measure is the number of bytes left.
 -- Assumes nothing.
-use Prim.Native.Nat.{◌+◌, ◌≤◌, ◌-◌}
+use Prim.Native.Nat.{◌-◌}
 use native.Mathlib.Omega.{arith}
 use native.Mathlib.Nat.{le_antisymm}
-use mathlib.Core.Path.{◌≡◌, refl}
-use mathlib.Core.List.{◌++◌}
-use lib.ListN.{length, take, length-set}
+use mathlib.Core.Path.{refl}
+use lib.ListN.{length-set}
 use Rattle.feed.proofs.Holding.{held_none, held_more}
 use Rattle.feed.proofs.hold.Goals as goal
 

@@ -1,5 +1,4 @@
 -- Byte 2 of an accepted table is I. Assumes nothing.
-use borrow.Author.Rules.{rules}
 use native.Mathlib.Omega.{arith}
 use mathlib.Core.Path.{sym, ◌∙◌}
 use Rattle.feed.proofs.Inputs.{inputs_first, accepted_inputs}

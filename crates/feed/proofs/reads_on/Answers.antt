@@ -1,5 +1,4 @@
 -- A case for each stage. Assumes nothing.
-use borrow.Author.Rules.{rules}
 use Rattle.feed.specs.Stands.{reading}
 use Rattle.feed.proofs.reads_on.Goals as goal
 

@@ -1,6 +1,5 @@
 -- The line of what stops, and nothing more. Assumes nothing.
 use Rattle.feed.proofs.Stepping.{stops}
-use borrow.Author.Rules.{rules}
 use Rattle.feed.proofs.stop.Goals as goal
 
 pub returns : goal.returns

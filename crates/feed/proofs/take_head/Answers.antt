@@ -3,7 +3,6 @@ use native.Mathlib.Omega.{arith}
 use mathlib.Core.Path.{sym, ◌∙◌}
 use lib.Seq.{length-take-le}
 use Rattle.feed.proofs.Advancing.{head_stopped, head_refused, head_tabled}
-use borrow.Author.Rules.{rules}
 use Rattle.feed.proofs.take_head.Goals as goal
 
 pub slice_bounds-head_of-end-2 : goal.slice_bounds-head_of-end-2

@@ -3,7 +3,6 @@ use native.Mathlib.Omega.{arith}
 use mathlib.Core.Path.{sym, refl}
 use lib.Seq.{length-take-le}
 use Rattle.feed.proofs.Advancing.{row_short, row_taken}
-use borrow.Author.Rules.{rules}
 use Rattle.feed.proofs.take_part.Goals as goal
 
 pub slice_bounds-inputs_of-end : goal.slice_bounds-inputs_of-end

@@ -4,7 +4,6 @@ use native.Mathlib.Omega.{arith}
 use mathlib.Core.Path.{sym}
 use lib.Seq.{length-take-le}
 use Rattle.feed.proofs.Advancing.{rows_taken}
-use borrow.Author.Rules.{rules}
 use Rattle.feed.proofs.take_rows.Goals as goal
 
 pub slice_bounds-inputs_of-end : goal.slice_bounds-inputs_of-end

@@ -3,7 +3,6 @@ use native.Mathlib.Omega.{arith}
 use mathlib.Core.Path.{sym}
 use lib.Seq.{length-take-le}
 use Rattle.feed.proofs.Advancing.{table_short, table_refused, table_taken}
-use borrow.Author.Rules.{rules}
 use Rattle.feed.proofs.take_table.Goals as goal
 
 pub returns-then-have-n : goal.returns-then-have-n
