@@ -1,5 +1,6 @@
 // The text of rows and of closing turns, on lent slices (document 01, "The program"): the answers of the calls, as lines.
 #![tactic(auto)]
+
 ghost use Rattle.std.specs.Prelude.{◌≡◌, ◌+◌, ◌*◌, ◌≤◌, ◌<◌, length, take};
 ghost use Rattle.basis.specs.Written.{Wrote};
 ghost use Rattle.limits.specs.Limits.{most_streams};

@@ -39,7 +39,11 @@ written_back_is {d} {e} k =
     ap (λ (l : List ℕ). record { look = l; kept = d.kept; rows = e.rows; done = e.done; phase = e.phase }) (sym k.look_is)
     ∙ ap (λ (l : List ℕ). record { look = e.look; kept = l; rows = e.rows; done = e.done; phase = e.phase }) (sym k.kept_is)
 
--- an entry that writes these three fields back leaves what its definition says
-pub lends_kept : {x : Left} {d : Record} {a : Reply} {st out : List ℕ} → Gives x a st out → Keeps d x.reply.held → Lends x (written_back d a.held) a.told st out
-lends_kept {d = d} g k =
-    record { record_is = ap (λ (b : Reply). written_back d b.held) g.reply_is ∙ written_back_is k; told_is = ap (λ (b : Reply). b.told) g.reply_is; store_is = g.store_is; output_is = g.output_is }
+-- what an entry leaves of what the call by value gives: the record behind the reference, and what is told
+pub lends_back : {x : Left} {d : Record} {a : Reply} {st out : List ℕ} → Gives x a st out → Keeps d x.reply.held → Lends x (written_back d a.held) a.told st out
+lends_back {d = d} g k = record {
+  record_is = ap (λ (b : Reply). written_back d b.held) g.reply_is ∙ written_back_is k;
+  told_is = ap (λ (b : Reply). b.told) g.reply_is;
+  store_is = g.store_is;
+  output_is = g.output_is;
+}

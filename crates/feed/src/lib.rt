@@ -1,6 +1,7 @@
 // The program on slices in memory (document 01, "The program"): how far it has come and the next bytes of its input in, its text and how
 // far it has come then out. Reads and writes are the program's.
 #![tactic(auto)]
+
 ghost use Rattle.std.specs.Prelude.{◌≡◌, false, List, ℕ, ◌+◌, ◌≤◌, ◌<◌, ◌^◌, length, take};
 ghost use Rattle.limits.specs.Limits.{most_table, most_streams, most_words};
 ghost use Rattle.records.specs.Kinds.{most_text};

@@ -1,7 +1,7 @@
--- `glasspuddle_close`: what closing may change is written back.
+-- `glasspuddle_close` meets its contract, by that of `Record::close`: what it does not write back, no call changes.
 -- Assumes nothing.
-use Rattle.dock.proofs.Keeping.{close_keeps, lends_kept}
+use Rattle.dock.proofs.Keeping.{close_keeps, lends_back}
 use Rattle.dock.proofs.glasspuddle_close.Goals as goal
 
 pub returns : goal.returns
-returns c = lends_kept c.close-reply.ensures (close_keeps _ _)
+returns c = lends_back c.close-reply.ensures (close_keeps _ _)

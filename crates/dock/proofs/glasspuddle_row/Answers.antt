@@ -1,7 +1,7 @@
--- `glasspuddle_row`: what a row may change is written back.
+-- `glasspuddle_row` meets its contract, by that of `Record::row`: what it does not write back, no call changes.
 -- Assumes nothing.
-use Rattle.dock.proofs.Keeping.{row_keeps, lends_kept}
+use Rattle.dock.proofs.Keeping.{row_keeps, lends_back}
 use Rattle.dock.proofs.glasspuddle_row.Goals as goal
 
 pub returns : goal.returns
-returns c = lends_kept c.row-reply.ensures (row_keeps _ _ _ _ _)
+returns c = lends_back c.row-reply.ensures (row_keeps _ _ _ _ _)
