@@ -1,6 +1,6 @@
 -- What the head says with one byte more. Assumes nothing.
 use native.Mathlib.Omega.{arith}
-use mathlib.Core.Path.{sym, ◌∙◌}
+use mathlib.Core.Path.{sym}
 use lib.Seq.{length-take-le}
 use Rattle.feed.proofs.Advancing.{head_stopped, head_refused, head_tabled}
 use Rattle.feed.proofs.take_head.Goals as goal

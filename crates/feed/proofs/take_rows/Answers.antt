@@ -1,5 +1,4 @@
 -- Bytes of a part row, or whole rows and their lines. Assumes nothing.
-use borrow.Author.Tests.{ltb-false}
 use native.Mathlib.Omega.{arith}
 use mathlib.Core.Path.{sym}
 use lib.Seq.{length-take-le}
