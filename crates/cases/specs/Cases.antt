@@ -1,6 +1,6 @@
 -- Document 01's cases P1 to P11 ("Examples": "P marks the cases to be proved"), as one list, and what it says of each that it holds.
 -- Assumes nothing.
-use Rattle.std.specs.Prelude.{ℕ, zero, suc, ◌+◌, ◌≡◌, List, [], ◌∷◌, ◌++◌, map, length, replicate}
+use Rattle.std.specs.Prelude.{ℕ, zero, suc, ◌≡◌, List, [], ◌∷◌, ◌++◌, map, length, replicate}
 use Rattle.limits.specs.Limits.{most_streams}
 use Rattle.value.specs.declared.Value.{Value}
 use Rattle.value.specs.Values.{image_of, reading_of, apply_of}

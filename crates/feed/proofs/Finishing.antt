@@ -1,5 +1,5 @@
 -- Laws of what comes behind the input's end: closing turns, one at least, then the last line. Assumes nothing.
-use Prim.Native.Nat.{ℕ, ◌+◌, ◌<◌}
+use Prim.Native.Nat.{ℕ, ◌<◌}
 use native.Mathlib.Omega.{arith}
 use native.Mathlib.Decide.{ℕ_discrete}
 use mathlib.Core.Path.{◌≡◌, refl, sym, ap, ◌∙◌}

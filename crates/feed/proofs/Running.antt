@@ -1,6 +1,6 @@
 -- The rows of an input, answered one after another, are a run as demand 3 speaks of it; its rows are the input's accepted ones, and its
 -- text is the lines of what its turns gave (document 01, "The program"). Assumes nothing.
-use Prim.Native.Nat.{ℕ, zero, suc, ◌+◌, ◌*◌, ◌≤◌, ◌<◌}
+use Prim.Native.Nat.{ℕ, zero, suc, ◌*◌, ◌≤◌, ◌<◌}
 use native.Mathlib.Omega.{arith}
 use mathlib.Core.Path.{◌≡◌, refl, sym, ap, ap₂, ◌∙◌}
 use mathlib.Core.Bool.{Bool, true, false}

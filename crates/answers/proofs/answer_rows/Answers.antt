@@ -1,6 +1,5 @@
 -- The loop's invariant: some rows have been answered, each whole. The measure is the number of bytes left.
 -- Assumes nothing.
-use Prim.Native.Nat.{◌-◌}
 use borrow.Author.Rules.{rules}
 use borrow.Author.Tests.{leb-true, leb-false}
 use native.Mathlib.Omega.{arith}

@@ -1,6 +1,5 @@
 -- The loop's invariant: so many closing turns are done. The measure is what is left of the bound on their number.
 -- Assumes nothing.
-use Prim.Native.Nat.{◌-◌}
 use borrow.Author.Rules.{rules}
 use borrow.Author.Tests.{leb-true, leb-false}
 use native.Mathlib.Omega.{arith}

@@ -1,6 +1,5 @@
 -- The loop's invariant: the first i words of the row stand in the first i words lent. The measure is the number of words left.
 -- Assumes nothing.
-use Prim.Native.Nat.{◌-◌}
 use native.Mathlib.Omega.{arith}
 use native.Mathlib.Nat.{le_antisymm}
 use mathlib.Core.Path.{refl}

@@ -1,6 +1,5 @@
 -- The loop's invariant: the first i bytes of the piece stand behind those held. The measure is the number of bytes left.
 -- Assumes nothing.
-use Prim.Native.Nat.{◌-◌}
 use native.Mathlib.Omega.{arith}
 use native.Mathlib.Nat.{le_antisymm}
 use mathlib.Core.Path.{refl}
