@@ -52,7 +52,7 @@ FILENAME ~ /\.antt$/ {
     if (named && match(line, /[A-Za-z_][A-Za-z0-9_]*/)) print FILENAME, substr(line, RSTART, RLENGTH)
 }
 END
-find crates \( -name '*.antt' -o -name '*.rt' \) -exec awk -f "$out/names.awk" '{}' + > "$out/pages.names"
+find crates -path '*/out' -prune -o \( -name '*.antt' -o -name '*.rt' \) -exec awk -f "$out/names.awk" '{}' + > "$out/pages.names"
 
 cat > "$out/pages.awk" << 'END'
 function wrong(text) { print "pages: " FILENAME ":" FNR ": " text; failures++ }
