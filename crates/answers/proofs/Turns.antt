@@ -11,7 +11,6 @@ use mathlib.Core.List.{List, []}
 use lib.ListN.{length}
 use Rattle.basis.proofs.Tests.{lt_or_eq}
 use Rattle.basis.proofs.Written.{wrote_nothing, then}
-use Rattle.lines.proofs.Lengths.{wrote_within}
 use Rattle.monitor.specs.declared.Run.{Run}
 use Rattle.monitor.specs.Refusals.{is_draining_of}
 use Rattle.monitor.specs.Calls.{After, row_call_of, drain_call_of}
@@ -47,9 +46,6 @@ module _ {s : List ℕ} {r₀ : Run} {st₀ a input : List ℕ} {inputs : ℕ} {
     whole = h;
     fewer = omega (arith, u.fewer);
   }
-
-  pub rows_fit : at ≤ length b
-  rows_fit = wrote_within (omega arith) u.reached.wrote
 
   -- no row, no text
   pub rows_silent : used ≡ 0 → at ≡ 0

@@ -19,9 +19,9 @@ use Rattle.feed.specs.declared.Head.TheVariants.{Stopped, Refused, Table as Tabl
 use Rattle.feed.specs.declared.Stage.TheVariants.{Head, Table, Rows, Shut}
 use Rattle.feed.specs.declared.Advance.{Advance}
 use Rattle.feed.specs.Head.{input_head}
-use Rattle.feed.specs.Printed.{row_size, printed}
+use Rattle.feed.specs.Printed.{printed}
 use Rattle.feed.specs.Stands.{AtHead, AtTable, Held, advanced_to, FromHead, FromTable, FromRows}
-use Rattle.feed.proofs.Stages.{head_bytes, head_more, head_table, table_more, table_whole, whole_long, table_opened, part_more, part_whole, rows_whole}
+use Rattle.feed.proofs.Stages.{head_bytes, head_more, head_table, table_whole, whole_long, table_opened, part_whole, rows_whole}
 use Rattle.feed.proofs.Texts.{printed_refused, printed_table}
 use Rattle.feed.proofs.Inputs.{opened_number, opened_place, some_input}
 
@@ -46,9 +46,6 @@ module _ {part piece part1 : List ℕ} {have : ℕ} (h : Held part have piece 1 
 -- ---- the table
 
 module _ {table piece table1 : List ℕ} {n have m : ℕ} (h : Held table have piece m table1) (some : 0 < m) {read : ℕ} {r : Advance} where
-  pub table_short : (store1 : List ℕ) {text1 : List ℕ} {run : Run} → have + m < n → r ≡ advanced_to (Table n (have + m)) run read m 0 → FromTable table n have read piece r table1 store1 text1
-  table_short store1 l q part = rw q (record { some = some; within = h.within; fits = omega arith; read_is = refl; onward = λ b said x. table_more x h l })
-
   module _ (whole : have + m ≡ n) (store : List ℕ) (long : length store ≡ most_words) {a : Answer} {store1 : List ℕ} (o : Opens (open_call (take n table1) store) a store1) where
     pub table_refused : {run : Run} {text text1 : List ℕ} {at : ℕ} → (a.number ≡ 0 → ⊥) → Wrote text 0 (refusal_line a.number a.place) text1 at → r ≡ advanced_to Shut run read m at
         → FromTable table n have read piece r table1 store1 text1
@@ -80,9 +77,6 @@ one_row {inputs = inputs} {k = suc (suc k)} t e =
     absurd (omega (arith, some_row t (omega arith), t.whole, t.used_is, e, suc-mul (suc k) (4 * inputs), suc-mul k (4 * inputs)))
 
 module _ {part piece part1 : List ℕ} {have m : ℕ} (h : Held part have piece m part1) (some : 0 < m) {table : List ℕ} {n : ℕ} {store : List ℕ} {run : Run} {read : ℕ} {r : Advance} where
-  pub row_short : {text1 : List ℕ} → have + m < row_size (table_for (take n table)) → r ≡ advanced_to (Rows n (have + m)) run read m 0 → FromRows run table store part n have read piece r store part1 text1
-  row_short l q = rw q (record { some = some; within = h.within; fits = omega arith; read_is = refl; onward = λ b said x. part_more x h l })
-
   pub row_taken : {run1 : Run} {store1 text text1 : List ℕ} {inputs row k used at : ℕ} → inputs ≡ (table_for (take n table)).inputs → row ≡ 4 * inputs → have + m ≡ row
       → length (take row part1) ≡ row → Taken (take row part1) inputs k used
       → Reached (after_rows (take n table) (take row part1) inputs k (begun run store)) run1 store1 text 0 text1 at

@@ -1,6 +1,5 @@
 pub mod Heads
 pub mod Inputs
-pub mod Holding
 pub mod Texts
 pub mod Stages
 pub mod Advancing

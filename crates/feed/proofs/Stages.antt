@@ -68,18 +68,6 @@ module _ {b table said : List ℕ} {n have : ℕ} (x : AtTable b table n have sa
   pub table_bytes : b ++ take m piece ≡ x.head ++ take (have + m) table1
   table_bytes = ap (λ (l : List ℕ). l ++ take m piece) x.bytes_are ∙ append_assoc x.head (take have table) (take m piece) ∙ ap (λ (l : List ℕ). x.head ++ l) (sym h.held)
 
-  pub table_more : have + m < n → AtTable (b ++ take m piece) table1 n (have + m) (said ++ [])
-  table_more less =
-      record {
-        head = x.head;
-        head_long = x.head_long;
-        head_is = x.head_is;
-        short = less;
-        bytes_are = table_bytes;
-        counted = table_counted;
-        silent = append-nil said ∙ x.silent;
-      }
-
   module _ (whole : have + m ≡ n) where
     pub table_whole : b ++ take m piece ≡ x.head ++ take n table1
     table_whole = table_bytes ∙ ap (λ (i : ℕ). x.head ++ take i table1) whole
@@ -172,26 +160,6 @@ module _ {b table : List ℕ} {n : ℕ} where
         come_is = x.come_is;
       }
 
-  -- other bytes of a part row
-  pub parted : {part : List ℕ} {y : Progress} (x : Behind b table n part y) {b1 part1 : List ℕ} → length part1 < row_size (table_for (take n table))
-      → b1 ≡ x.head ++ (take n table ++ (x.rows ++ part1)) → Behind b1 table n part1 y
-  parted x l e =
-      record {
-        head = x.head;
-        head_long = x.head_long;
-        head_is = x.head_is;
-        table_long = x.table_long;
-        accepted = x.accepted;
-        store = x.store;
-        store_long = x.store_long;
-        rows = x.rows;
-        count = x.count;
-        rows_long = x.rows_long;
-        part_short = l;
-        bytes_are = e;
-        come_is = x.come_is;
-      }
-
 module _ {b : List ℕ} {run : Run} {table store part : List ℕ} {n have : ℕ} {said : List ℕ} (x : AtRows b run table store part n have said) {part1 piece : List ℕ} {m : ℕ}
     (h : Held part have piece m part1) where
   part_counted : length (take (have + m) part1) ≡ have + m
@@ -206,14 +174,6 @@ module _ {b : List ℕ} {run : Run} {table store part : List ℕ} {n have : ℕ}
       ∙ append_assoc d (s ++ (r ++ take have part)) (take m piece)
       ∙ ap (λ (l : List ℕ). d ++ l)
       (append_assoc s (r ++ take have part) (take m piece) ∙ ap (λ (l : List ℕ). s ++ l) (append_assoc r (take have part) (take m piece) ∙ ap (λ (l : List ℕ). r ++ l) (sym h.held)))
-
-  -- the row is not whole yet
-  pub part_more : have + m < row_size (table_for (take n table)) → AtRows (b ++ take m piece) run table store part1 n (have + m) (said ++ [])
-  part_more less =
-      record {
-        behind = subst (λ (l : List ℕ). Behind (b ++ take m piece) table n (take (have + m) part1) (come run store l)) (sym (append-nil said)) (parted x.behind (omega (arith, part_counted, less)) part_bytes);
-        counted = part_counted;
-      }
 
   -- the row is whole, and answered
   pub part_whole : have + m ≡ row_size (table_for (take n table)) → {run1 : Run} {store1 before after : List ℕ} {at : ℕ}

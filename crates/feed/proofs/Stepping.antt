@@ -1,15 +1,14 @@
 -- Laws of a step from any stage, and of the input's end in any stage. Assumes nothing.
-use Prim.Native.Nat.{ℕ, ◌+◌, ◌≤◌, ◌<◌}
+use Prim.Native.Nat.{ℕ, ◌+◌}
 use native.Mathlib.Omega.{arith}
 use mathlib.Core.Path.{◌≡◌, refl, sym, ap, subst, ◌∙◌}
 use mathlib.Core.Bool.{true, false}
-use mathlib.Core.Logic.{⊎_elim}
-use mathlib.Core.List.{List, [], ◌++◌, append_assoc, append-nil}
+use mathlib.Core.List.{List, [], ◌++◌, append-nil}
 use borrow.Author.Tests.{ne_eqb}
 use lib.ListN.{length, take, length-append}
-use lib.Seq.{length-take-le, take_all}
+use lib.Seq.{length-take-le}
 use Rattle.basis.specs.Written.{Wrote}
-use Rattle.basis.proofs.Tests.{true_false, lt_or_ge}
+use Rattle.basis.proofs.Tests.{true_false}
 use Rattle.lines.specs.Lines.{stop_line}
 use Rattle.lines.proofs.Lengths.{wrote_within}
 use Rattle.monitor.specs.declared.Run.{Run}
@@ -23,11 +22,8 @@ use Rattle.feed.specs.declared.Advance.{Advance}
 use Rattle.feed.specs.declared.Ending.{Ending}
 use Rattle.feed.specs.declared.Ended.{Ended}
 use Rattle.feed.specs.Printed.{part_line, printed}
-use Rattle.feed.specs.Stands.{AtHead, AtTable, AtRows, come, AtClosing, StandsAt, reading, Lent, Stands, Standing, Begins, Ends, Closing, Onward, Steps, EndsIn, Closes, StopsIn, Finishes, advanced_to, ended_as}
+use Rattle.feed.specs.Stands.{AtHead, AtTable, AtRows, come, AtClosing, StandsAt, reading, Lent, Stands, Standing, Begins, Closing, Onward, Steps, EndsIn, Closes, StopsIn, Finishes, ended_as}
 use Rattle.feed.proofs.Texts.{printed_stopped, printed_short}
-
-pub whole_within : (n : ℕ) (l : List ℕ) → length (take n l) ≡ n → n ≤ length l
-whole_within n l e = ⊎_elim (λ h. omega (arith, e, ap length (take_all n l (omega (arith, h))))) (λ h. h) (lt_or_ge (length l) n)
 
 -- ---- the stage that the program stands at
 
@@ -41,10 +37,10 @@ module _ {b : List ℕ} {x : State} {table store part said : List ℕ} (s : Stan
   pub at_table : {n have : ℕ} → x.stage ≡ Table n have → AtTable b table n have said
   at_table e = at_stage e
 
-  pub at_rows : {n have : ℕ} → x.stage ≡ Rows n have → AtRows b x.run table store part n have said
+  at_rows : {n have : ℕ} → x.stage ≡ Rows n have → AtRows b x.run table store part n have said
   at_rows e = at_stage e
 
-  pub at_shut : x.stage ≡ Shut → (more : List ℕ) → printed (b ++ more) ≡ said
+  at_shut : x.stage ≡ Shut → (more : List ℕ) → printed (b ++ more) ≡ said
   at_shut e = at_stage e
 
 -- ---- a step
@@ -66,26 +62,7 @@ module _ {x : State} {table store part piece : List ℕ} {r : Advance} {table1 s
             };
       }
 
-pub step_shut : {x : State} {table store part piece : List ℕ} {r : Advance} {text1 : List ℕ} → 0 < length piece → x.stage ≡ Shut → r ≡ advanced_to Shut x.run x.read (length piece) 0
-    → Steps x table store part piece r table store part text1
-step_shut {x} {table} {store} {part} {piece} {r} {text1} some e q =
-    steps {P = λ b said. (more : List ℕ) → printed (b ++ more) ≡ said} (λ b said s. at_shut s e) (λ l. l)
-    (rw q (record { some = some; within = omega arith; fits = omega arith; read_is = refl; onward = further }))
-  where
-    further : (b said : List ℕ) → ((more : List ℕ) → printed (b ++ more) ≡ said) → (more : List ℕ) → printed ((b ++ take (length piece) piece) ++ more) ≡ said ++ []
-    further b said f more = ap printed (append_assoc b (take (length piece) piece) more) ∙ f (take (length piece) piece ++ more) ∙ sym (append-nil said)
-
 -- ---- the input's end
-
-pub stops : {read : ℕ} {run : Run} {r : Ended} {text text1 : List ℕ} {at : ℕ} → Wrote text 0 (stop_line read) text1 at → r ≡ ended_as true 0 run at → StopsIn read r text1
-stops {read} {run} {r} {text} {text1} {at} w q table store = rw q (record { fits = wrote_within (omega arith) w; onward = stopped })
-  where
-    stopped : (b said : List ℕ) → (said ≡ []) × (printed b ≡ stop_line (length b)) × (read ≡ length b) → Ends b (ended_as true 0 run at).ending table store (said ++ take at text1)
-    stopped b said p =
-        record {
-          over = λ _ _. p.1 ∙ ap stop_line (sym p.2) ∙ sym w.front ∙ ap (λ (l : List ℕ). l ++ take at text1) (sym p.0);
-          closing = λ e. true_false refl e;
-        }
 
 module _ {run : Run} {n have : ℕ} {table : List ℕ} {a : Answer} (c : a ≡ (close_call (take n table) run).answer) where
   closed_at : {b store part said text : List ℕ} → AtRows b run table store part n have said → text ≡ part_line have (length b) → AtClosing b a.run table store n (said ++ text)

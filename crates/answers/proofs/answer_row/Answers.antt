@@ -2,16 +2,11 @@
 use Prim.Native.Nat.{◌≤◌}
 use borrow.Author.Rules.{rules}
 use native.Mathlib.Omega.{arith}
-use mathlib.Core.Path.{◌≡◌, sym}
+use mathlib.Core.Path.{◌≡◌}
 use lib.ListN.{length}
-use lib.Seq.{length-take-le}
 use Rattle.records.specs.Kinds.{most_room}
 use Rattle.answers.proofs.Answers.{row_count, reached_by}
 use Rattle.answers.proofs.answer_row.Goals as goal
-
-pub slice_bounds-row-end : goal.slice_bounds-row-end
-slice_bounds-row-end c = let e : length c.row_words.new.words ≡ 32 = search rules in
-    sym (length-take-le _ _ (omega arith))
 
 pub put_answer-end-requires : goal.put_answer-end-requires
 put_answer-end-requires c = let e : length c.row-answer.new.out ≡ most_room = search rules in

@@ -1,12 +1,6 @@
 -- A part row has its line, a whole one none. Assumes nothing.
-use native.Mathlib.Omega.{arith}
-use mathlib.Core.Path.{sym}
-use lib.Seq.{length-take-le}
 use Rattle.feed.proofs.Stepping.{closes_whole, closes_part}
 use Rattle.feed.proofs.close.Goals as goal
-
-pub slice_bounds-close-end : goal.slice_bounds-close-end
-slice_bounds-close-end c = sym (length-take-le _ _ (omega arith))
 
 pub returns-then-have-eq0 : goal.returns-then-have-eq0
 returns-then-have-eq0 c = closes_whole c.close-closed.ensures c.if-have-eq0.true c.ending_with.ensures

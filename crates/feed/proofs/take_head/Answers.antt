@@ -1,12 +1,7 @@
 -- What the head says with one byte more. Assumes nothing.
-use native.Mathlib.Omega.{arith}
 use mathlib.Core.Path.{sym}
-use lib.Seq.{length-take-le}
 use Rattle.feed.proofs.Advancing.{head_stopped, head_refused, head_tabled}
 use Rattle.feed.proofs.take_head.Goals as goal
-
-pub slice_bounds-head_of-end-2 : goal.slice_bounds-head_of-end-2
-slice_bounds-head_of-end-2 c = sym (length-take-le _ _ (omega arith))
 
 pub returns-in-Stopped : goal.returns-in-Stopped
 returns-in-Stopped c = head_stopped c.hold.ensures (sym c.in-Stopped.ensures) c.advanced.ensures
