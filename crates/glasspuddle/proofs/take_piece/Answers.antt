@@ -1,4 +1,4 @@
-use Rattle.std.proofs.Common.{true, false, ◌++◌, take, refl, arith}
+use Rattle.std.proofs.Common.{ℕ, List, true, false, ◌++◌, take, refl, arith}
 use Rattle.glasspuddle.proofs.Putting.{written_more, written_all, written_whole}
 use Rattle.glasspuddle.proofs.Pieces.{moved_more, moved_taken}
 use Rattle.std.proofs.KnownBytes.{Appends-trans}
@@ -12,10 +12,11 @@ returns-then-not-write_text-clause-taken g c =
 
 pub loop-used-preserved : goal.loop-used-preserved
 loop-used-preserved g c =
-    let (text, moved, put, same) = c.loop-used.invariant in (
-      text ++ take c.step-advance.result.at c.step-advance.new.text,
+    let (text, moved, put, same) = c.loop-used.invariant in
+    let more : List ℕ = take c.step-advance.result.at c.step-advance.new.text in (
+      text ++ more,
       moved_more moved c.step-advance.result c.step-advance.new.table c.step-advance.new.store c.step-advance.new.part c.step-advance.new.text c.step-advance.ensures,
-      Appends-trans _ _ _ _ _ put (written_all true _ _ _ c.if-not-write_text.ensures.written refl),
+      Appends-trans _ _ _ text more put (written_all true _ _ more c.if-not-write_text.ensures.written refl),
       cc,
     )
 
