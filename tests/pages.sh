@@ -52,7 +52,7 @@ FILENAME ~ /\.antt$/ {
     if (named && match(line, /[A-Za-z_][A-Za-z0-9_]*/)) print FILENAME, substr(line, RSTART, RLENGTH)
 }
 END
-find crates \( -name '*.antt' -o -name '*.rt' \) -exec awk -f "$out/names.awk" '{}' + > "$out/pages.names"
+find crates -path '*/out' -prune -o \( -name '*.antt' -o -name '*.rt' \) -exec awk -f "$out/names.awk" '{}' + > "$out/pages.names"
 
 cat > "$out/pages.awk" << 'END'
 function wrong(text) { print "pages: " FILENAME ":" FNR ": " text; failures++ }
@@ -76,11 +76,11 @@ function any_file(word) {
     return word ~ /^(target|https?:)/ || word ~ /[*<>]/ || word ~ /(^|\/)\+?(CRATE|NAME|LABEL|FN|F|X)(\/|\.|$)/ \
         || word ~ /^(src|specs|proofs|must-fail)(\/|$)/ || word ~ /^[0-9\/]+$/ || word ~ /^\/+$/
 }
-# A name of ours: any in docs/PROMISES.md, where an edit may stand without its crate; in another page of docs/ one with a capital or a
-# hyphen inside, as definitions and laws have.
+# A name of ours: any in docs/PROMISES.md, where an edit may stand without its crate; in another page of docs/ one with a capital, a
+# hyphen or a line below inside, as definitions and laws have. docs/PORT.md also has the names of before.
 function is_name(word) {
     if (FILENAME ~ /PROMISES/) return word ~ /^\.?[A-Za-z][A-Za-z0-9_-]*$/
-    return FILENAME ~ /^docs\// && (word ~ /^[a-z]+[A-Z][A-Za-z0-9]*$/ || word ~ /^[a-z]+-[a-z0-9-]+$/)
+    return FILENAME ~ /^docs\// && FILENAME !~ /PORT/ && (word ~ /^[a-z]+[A-Z][A-Za-z0-9]*$/ || word ~ /^[a-z]+[_-][a-z0-9_-]+$/)
 }
 function is_path(word) { return word ~ /\// || word ~ /\.(antt|rt|rs|sh|py|md|edit|svg|txt)$/ }
 
@@ -121,7 +121,7 @@ function code_name(word, part) {
 function names_in(path, n, i, k, m, part, word, some) {
     n = split(pending, part, "\n")
     for (i = 1; i <= n; i++) {
-        m = split(part[i], word, /[^A-Za-z0-9'-]+/)
+        m = split(part[i], word, /[^A-Za-z0-9'_-]+/)
         some = ""
         for (k = 1; k <= m; k++) if (word[k] != "" && !(word[k] in spoken)) { if (some == "") some = "no"; if ((path, word[k]) in defined) some = "yes" }
         if (some == "no") wrong(path " does not define " part[i])
@@ -170,7 +170,7 @@ function spans(text, n, i, k, m, part, word, path, cells, inside, first, names_o
 
 BEGIN {
     # words between backquotes in docs/PROMISES.md that are no names of ours
-    n = split("requires ensures if else then v t r s end at now nanBits ofBits toBits", word, " ")
+    n = split("requires ensures if else then v t r s end at now nan_bits of_bits to_bits", word, " ")
     for (i = 1; i <= n; i++) spoken[word[i]]
 }
 FILENAME ~ /pages\.files$/ {

@@ -9,7 +9,7 @@ bad=0
 
 # The crates that a crate's files name: in antt by Rattle.NAME, in code by NAME:: too.
 named() {
-    find "crates/$1" -name '*.antt' -o -name '*.rt' | xargs sed 's/\(--\|\/\/\).*//' \
+    find "crates/$1" -path '*/out' -prune -o \( -name '*.antt' -o -name '*.rt' \) -print | xargs sed 's/\(--\|\/\/\).*//' \
         | grep -o 'Rattle\.[a-z0-9_]*' | sed 's/Rattle\.//'
     sed 's/\/\/.*//' "crates/$1"/src/*.rt | grep -oE '\b[a-z0-9_]+::' | sed 's/:://'
 }
@@ -37,7 +37,7 @@ for crate in $known; do
 done
 
 # An operator, as ◌+◌, is named where all its parts are.
-idle=$(find crates -name '*.antt' -o -name '*.rt' | sort | while read -r file; do
+idle=$(find crates -path '*/out' -prune -o \( -name '*.antt' -o -name '*.rt' \) -print | sort | while read -r file; do
     awk -v file="$file" '
         /^[ \t]*(ghost )?use [^{}]*\{[^}]*\};?$/ {
             list = $0; sub(/^[^{]*\{/, "", list); sub(/\};?$/, "", list)

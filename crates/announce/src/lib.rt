@@ -1,6 +1,7 @@
 // The check of a table (document 01): from its bytes to look-ahead, kept values, store words, room and closing turns, or to the number
 // and the place of the refusal. It assumes nothing.
 #![tactic(auto)]
+
 ghost use Rattle.std.specs.Prelude.{◌≡◌, ℕ, ◌+◌, ◌-◌, ◌*◌, ◌<◌, length, get_or};
 ghost use Rattle.limits.specs.Limits.{most_streams, most_pairs};
 ghost use Rattle.basis.specs.Rows.{column};
@@ -93,7 +94,8 @@ fn weights_of(table: &[u8], scan: Scan) -> Weights
     }
 }
 
-// The square of the largest weights, NONE where there is no edge.
+// The square of the largest weights, NONE where there is no edge. (Out of line for the stack's sake, as `square::relax`.)
+#[inline(never)]
 fn square_of(rise: &[u16; PAIRS_MOST]) -> [[i64; STREAMS_MOST]; STREAMS_MOST]
     requires { length rise.now ≡ most_pairs }
     ensures { (y v : ℕ) → y < most_streams → v < most_streams → cell result y v ≡ rise_best (get_or rise.now (y * most_streams + v) 0) }
@@ -123,6 +125,7 @@ fn row_of(all: &[u16; PAIRS_MOST], y: usize) -> [u16; STREAMS_MOST]
 }
 
 // The announced numbers of a table whose loops are all below 0, or refusal 8.
+#[inline(never)]
 fn numbers_of(scan: Scan, look: [u16; STREAMS_MOST], fall: &[u16; PAIRS_MOST]) -> Checked
     requires { Fitting scan look fall.now }
     ensures { result ≡ numbers_for scan look fall.now }

@@ -14,7 +14,7 @@ use Rattle.monitor.specs.Refusals.{fault, after_table}
 use Rattle.monitor.specs.Calls.{After, open_call, close_call, Leaves, Opens}
 use Rattle.dock.specs.declared.Record.{Record}
 use Rattle.dock.specs.declared.Reply.{Reply}
-use Rattle.dock.specs.Lent.{over_byte, reply_for, Left, left_by_of, strange_reply, lent, lent_open, Gives, Lends}
+use Rattle.dock.specs.Lent.{over_byte, reply_for, Left, left_by_of, strange_reply, lent, lent_open, Gives}
 
 pub strange_is : (s : List ℕ) (d : Record) {f : Fault} → f ≡ after_table s (fault foreign_record 0) → record { held = d; told = record { number = f.number; place = f.place; count = 0 } } ≡ strange_reply s d
 unfolding strange_reply
@@ -57,7 +57,3 @@ close_leaves s r h = record { answer_is = h; store_is = rw (store_either, either
 pub gives_opened : (s st : List ℕ) {b : Answer} {a : Reply} {st1 : List ℕ} → a ≡ reply_for b → Opens (open_call s st) b st1 → Gives (lent_open s st) a st1 []
 unfolding open_call
 gives_opened s st e o = record { reply_is = e ∙ ap reply_for o.answer_is; store_is = o.store_is; output_is = rw (output_either, either_none) }
-
--- what an entry leaves of what the call by value gives: the record behind the reference, and what is told
-pub lends_of : {x : Left} {a : Reply} {st out : List ℕ} → Gives x a st out → Lends x a.held a.told st out
-lends_of g = record { record_is = ap (λ (b : Reply). b.held) g.reply_is; told_is = ap (λ (b : Reply). b.told) g.reply_is; store_is = g.store_is; output_is = g.output_is }

@@ -8,7 +8,8 @@ use Rattle.basis.proofs.Tests.{pick_case}
 use Rattle.monitor.specs.Calls.{After, row_call_of, close_call, drain_call_of}
 use Rattle.monitor.proofs.Keeping as monitor
 use Rattle.dock.specs.declared.Record.{Record}
-use Rattle.dock.specs.Lent.{over_byte, run_of, Left, left_by_of, strange_reply, lent, lent_row, lent_close, lent_drain, written_back}
+use Rattle.dock.specs.declared.Reply.{Reply}
+use Rattle.dock.specs.Lent.{over_byte, run_of, Left, left_by_of, strange_reply, lent, lent_row, lent_close, lent_drain, written_back, Gives, Lends}
 
 -- e is the record of d's run, further on
 pub record Keeps (d e : Record) : Type 0 where
@@ -37,3 +38,12 @@ pub written_back_is : {d e : Record} → Keeps d e → written_back d e ≡ e
 written_back_is {d} {e} k =
     ap (λ (l : List ℕ). record { look = l; kept = d.kept; rows = e.rows; done = e.done; phase = e.phase }) (sym k.look_is)
     ∙ ap (λ (l : List ℕ). record { look = e.look; kept = l; rows = e.rows; done = e.done; phase = e.phase }) (sym k.kept_is)
+
+-- what an entry leaves of what the call by value gives: the record behind the reference, and what is told
+pub lends_back : {x : Left} {d : Record} {a : Reply} {st out : List ℕ} → Gives x a st out → Keeps d x.reply.held → Lends x (written_back d a.held) a.told st out
+lends_back {d = d} g k = record {
+  record_is = ap (λ (b : Reply). written_back d b.held) g.reply_is ∙ written_back_is k;
+  told_is = ap (λ (b : Reply). b.told) g.reply_is;
+  store_is = g.store_is;
+  output_is = g.output_is;
+}

@@ -1,23 +1,14 @@
 -- The phase as a byte, and the byte as a phase.
 -- Assumes nothing.
 use Prim.Native.Nat.{ℕ, zero, suc, ◌≤◌}
-use mathlib.Core.Path.{◌≡◌, refl, sym}
+use mathlib.Core.Path.{◌≡◌, refl}
 use mathlib.Core.Bool.{false}
 use native.Mathlib.Omega.{arith}
 use lib.Dec.{ltb}
 use borrow.Author.Tests.{eq-eqb, ne_eqb}
-use denote.Enum.Declared.{tag_of}
-use Rattle.monitor.specs.contracts.Phase.{the_type}
 use Rattle.monitor.specs.declared.Phase.{Phase}
 use Rattle.monitor.specs.declared.Phase.TheVariants.{Reading, Draining, Over}
 use Rattle.dock.specs.Lent.{reading_byte, draining_byte, over_byte, number_of, phase_for}
-
--- a phase's byte is its place among the phases
-pub number_is : (p : Phase) {n : ℕ} → tag_of the_type p ≡ n → n ≡ number_of p
-unfolding number_of
-number_is Reading h = sym h
-number_is Draining h = sym h
-number_is Over h = sym h
 
 module _ (n : ℕ) where
   pub reading_is : n ≡ reading_byte → Reading ≡ phase_for n

@@ -2,6 +2,7 @@
 // call gives". They are called from C and Rust (include/glasspuddle.h). An entry of an open run writes back rows, closing turns done and phase:
 // no call changes the others (proofs/Keeping.antt). It assumes nothing.
 #![tactic(auto)]
+
 ghost use Rattle.std.specs.Prelude.{◌≡◌, []};
 ghost use Rattle.announce.specs.Announced.{announced};
 ghost use Rattle.announce.specs.Conditions.{Answers};
@@ -186,8 +187,10 @@ pub extern "C" fn glasspuddle_open(record: &mut Record, table: &[u8], store: &mu
     ensures { Lends (lent_open table.now store.old) «record».new result store.new [] }
 {
     let reply = opened(table, store);
-    record.look = reply.held.look;
-    record.kept = reply.held.kept;
+    let look = reply.held.look;
+    let kept = reply.held.kept;
+    record.look = look;
+    record.kept = kept;
     record.rows = reply.held.rows;
     record.done = reply.held.done;
     record.phase = reply.held.phase;

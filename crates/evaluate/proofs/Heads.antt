@@ -17,7 +17,6 @@ use Rattle.node.proofs.Standing.{is_operator, no_body}
 use Rattle.expression.specs.Syntax.{Expr}
 use Rattle.expression.specs.Grammar.{good, bad, parse}
 use Rattle.node.specs.declared.Node.{Node}
-use Rattle.node.specs.declared.Node.TheVariants.{Operator}
 use Rattle.node.specs.Head as head
 use Rattle.evaluate.specs.Evaluation.{Readable}
 

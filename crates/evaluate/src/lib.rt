@@ -1,6 +1,7 @@
 // The evaluator over the table's own bytes, and the turn over the lent store (document 01, "A run"). `types`, `look`, `kept`, `starts` and
 // `order` hold a number for each stream; `known` is the number of rows known, `frame` that of the turn.
 #![tactic(auto)]
+
 ghost use Rattle.std.specs.Prelude.{◌≡◌, length};
 ghost use Rattle.node.specs.Kinds.{Tabulated};
 ghost use Rattle.store.specs.Store.{Framed};

@@ -4,7 +4,6 @@
 
 ghost use Rattle.std.specs.Prelude.{◌≡◌, true, false, List, ℕ, ◌+◌, ◌*◌, ◌/◌, ◌%◌, ◌≤◌, ◌<◌, leb, length, take};
 ghost use Rattle.basis.specs.Notes.{rising, falling};
-ghost use Rattle.basis.specs.Rows.{entry};
 ghost use Rattle.limits.specs.Limits.{most_streams, most_levels};
 ghost use Rattle.node.specs.declared.Node.TheVariants.{Constant, Now, At};
 ghost use Rattle.node.specs.Node.{is_leaf_of, standing};

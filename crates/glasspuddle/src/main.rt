@@ -2,9 +2,11 @@
 // write stops it, with a message and no further line.
 #![tactic(auto)]
 
-ghost use Rattle.std.specs.Prelude.{◌≡◌, true, List, ℕ, ◌+◌, ◌≤◌, ◌<◌, ◌^◌, length, IfSome};
+ghost use Rattle.std.specs.Prelude.{◌≡◌, true, List, ℕ, ◌+◌, ◌≤◌, ◌<◌, ◌^◌, length, take};
 ghost use Rattle.records.specs.Kinds.{most_text};
 ghost use Rattle.feed.specs.Stands.{reading, Lent, Standing};
+ghost use Rattle.glasspuddle.specs.Written.{Took, Written};
+ghost use Rattle.glasspuddle.specs.Program.{Taken, Heard, Rested, Answered};
 
 use feed::State;
 use std::io;
@@ -45,7 +47,9 @@ fn again(clock: &impl Clock, error: io::Error) -> bool {
 }
 
 // Puts all of the text to a writer, or answers false. A loop has to end: this one does after 2^64 tries.
-fn put<O: Write>(to: &mut O, clock: &impl Clock, text: &[u8]) -> bool {
+fn put<O: Write>(to: &mut O, clock: &impl Clock, text: &[u8]) -> bool
+    ensures { Written result (O.contents to.old) (O.contents to.new) text.now }
+{
     let mut done: usize = 0;
     let mut tries: u64 = u64::MAX;
     while done < text.len() && tries > 0 {
@@ -64,7 +68,9 @@ fn put<O: Write>(to: &mut O, clock: &impl Clock, text: &[u8]) -> bool {
 }
 
 // Where a read says that the input is at its end: whether it is, or was cut off. A terminal that hung up is none any more.
-fn at_end<I: IsTerminal, O, M: Write, C: Clock>(ends: &mut Ends<I, O, M, C>) -> bool {
+fn at_end<I: IsTerminal, O, M: Write, C: Clock>(ends: &mut Ends<I, O, M, C>) -> bool
+    ensures { (ends.new.input ≡ ends.old.input) × (ends.new.output ≡ ends.old.output) }
+{
     if !ends.was_terminal {
         return true;
     }
@@ -84,7 +90,8 @@ fn read_some<I: Read + IsTerminal, O, M: Write, C: Clock>(
     ends: &mut Ends<I, O, M, C>,
     input: &mut [u8],
 ) -> Option<usize>
-    ensures { IfSome result (λ n. n ≤ length input.new) }
+    ensures read { Took result (I.remaining ends.old.input) (I.remaining ends.new.input) input.new }
+    ensures output { ends.new.output ≡ ends.old.output }
 {
     let mut tries: u64 = u64::MAX;
     while tries > 0 {
@@ -114,6 +121,8 @@ fn write_text<I, O: Write, M: Write, C: Clock>(
     at: usize,
 ) -> bool
     requires { at ≤ length text.now }
+    ensures written { Written result (O.contents ends.old.output) (O.contents ends.new.output) (take at text.now) }
+    ensures input { ends.new.input ≡ ends.old.input }
 {
     if put(&mut ends.output, &ends.clock, &text[..at]) {
         return true;
@@ -139,6 +148,9 @@ fn take_piece<I, O: Write, M: Write, C: Clock>(
     requires { Standing state table.old store.old part.old × (state.read + length piece.now < 2 ^ 64) × (most_text ≤ length text.old) }
     ensures standing { Standing result.state table.new store.new part.new }
     ensures read_lt_read { reading state.stage ≡ true → 0 < length piece.now → state.read < result.state.read }
+    ensures taken { Taken result.fine state table.old store.old part.old piece.now result.state table.new store.new part.new
+        (O.contents ends.old.output) (O.contents ends.new.output) }
+    ensures input { ends.new.input ≡ ends.old.input }
 {
     let mut latest = state;
     let mut used: usize = 0;
@@ -171,15 +183,21 @@ fn take_input<I: Read + IsTerminal, O: Write, M: Write, C: Clock>(
     text: &mut [u8],
 ) -> Went
     requires { Lent table.old store.old part.old × (length input.old ≡ 65536) × (most_text ≤ length text.old) }
-    ensures { Standing result.state table.new store.new part.new }
+    ensures standing { Standing result.state table.new store.new part.new }
+    ensures heard { Heard result.fine result.state table.new store.new part.new (I.remaining ends.old.input) (I.remaining ends.new.input)
+        (O.contents ends.old.output) (O.contents ends.new.output) }
 {
     let mut latest = feed::begin();
     while feed::reads_on(latest) && latest.read <= usize::MAX - PIECE_MOST {
-        let got = read_some(ends, input);
-        let n = got.unwrap_or(0);
+        let Some(n) = read_some(ends, input) else {
+            return Went {
+                fine: false,
+                state: latest,
+            };
+        };
         if n == 0 {
             return Went {
-                fine: got.is_some(),
+                fine: true,
                 state: latest,
             };
         }
@@ -199,15 +217,16 @@ fn take_input<I: Read + IsTerminal, O: Write, M: Write, C: Clock>(
     }
 }
 
-// The lines behind the end of the input.
+// The lines behind the end of the input, or answers false.
 fn give_rest<I, O: Write, M: Write, C: Clock>(
     ends: &mut Ends<I, O, M, C>,
     state: State,
     table: &[u8],
     store: &mut [u32],
     text: &mut [u8],
-)
+) -> bool
     requires { ((part : List ℕ) × Standing state table.now store.old part) × (most_text ≤ length text.old) }
+    ensures { Rested result state table.now store.old (O.contents ends.old.output) (O.contents ends.new.output) }
 {
     let ended = feed::end(state, table, text);
     let first = ended.ending;
@@ -219,6 +238,26 @@ fn give_rest<I, O: Write, M: Write, C: Clock>(
         latest = next;
         fine = write_text(ends, text, more.at);
     }
+    fine
+}
+
+// Answers the input, or answers false where a read or a write failed.
+fn run<I: Read + IsTerminal, O: Write, M: Write, C: Clock>(
+    ends: &mut Ends<I, O, M, C>,
+    table: &mut [u8],
+    store: &mut [u32],
+    part: &mut [u8],
+    input: &mut [u8],
+    text: &mut [u8],
+) -> bool
+    requires { Lent table.old store.old part.old × (length input.old ≡ 65536) × (most_text ≤ length text.old) }
+    ensures { Answered result (I.remaining ends.old.input) (O.contents ends.old.output) (O.contents ends.new.output) }
+{
+    let went = take_input(ends, table, store, part, input, text);
+    if !went.fine {
+        return false;
+    }
+    give_rest(ends, went.state, table, store, text)
 }
 
 fn main(rt: HostRuntime) {
@@ -234,11 +273,7 @@ fn main(rt: HostRuntime) {
     let mut part = [0u8; feed::PART_MOST];
     let mut input = [0u8; PIECE_MOST];
     let mut text = [0u8; PIECE_MOST];
-    let went = take_input(
+    run(
         &mut ends, &mut table, &mut store, &mut part, &mut input, &mut text,
     );
-    let state = went.state;
-    if went.fine {
-        give_rest(&mut ends, state, &table, &mut store, &mut text);
-    }
 }

@@ -1,5 +1,6 @@
 // The program's lines, written into a lent slice (document 01, "The program"). Each function answers where its text ends.
 #![tactic(auto)]
+
 ghost use Rattle.std.specs.Prelude.{◌≡◌, ◌+◌, ◌≤◌, ◌<◌, length};
 ghost use Rattle.basis.specs.Written.{Wrote};
 ghost use Rattle.lines.specs.Lines.{decimal, two_digits, spaced, pair, hex_digit_of, hex2, hex8, value_line, trigger_line, refusal_line, stop_line, end_line};

@@ -1,15 +1,15 @@
 -- The edges of a table are the edges of its specification's dependency graph, and its loops are below 0 where that is future bounded
 -- (document 01, "What the check announces"; source 004, definitions 8 and 14).
 -- Assumes nothing.
-use Prim.Native.Nat.{ℕ, ◌+◌, ◌-◌, ◌≤◌, ◌<◌}
+use Prim.Native.Nat.{ℕ, ◌+◌, ◌≤◌, ◌<◌}
 use mathlib.Core.Path.{◌≡◌, refl, sym}
 use mathlib.Core.List.{List, ◌++◌}
 use mathlib.Core.Logic.{inl, inr, ⊎_elim}
 use lib.ListN.{length}
 use lib.IntN.{ℤ}
-use Rattle.basis.specs.Edges.{Among, Has, here}
+use Rattle.basis.specs.Edges.{Among, Has, here, later}
 use Rattle.basis.proofs.Edges.{has_after, has_before, has_either}
-use Rattle.node.specs.declared.Node.TheVariants.{Now, At}
+use Rattle.node.specs.declared.Node.TheVariants.{Constant, Now, At, Operator}
 use Rattle.value.specs.declared.Value.{Value}
 use Rattle.expression.specs.Syntax.{Expr, leaf, unary, binary, ternary}
 use Rattle.table.proofs.Edges.{reference_edge, edge_output, edge_reference}
@@ -28,6 +28,8 @@ module _ (ts : List ℕ) (y : ℕ) where
   -- a reference that occurs is an edge of the list
   pub occurs_has : (e : Expr) (r : Ref Value) → Occurs r (meaning ts e) → Has y (target r) (offset r) (references y e)
   unfolding meaning references node_references
+  occurs_has (leaf (Constant _ _)) r o = elim o [ ]
+  occurs_has (leaf (Operator _)) r o = elim o [ ]
   occurs_has (leaf (Now v)) r graph.here = here refl refl refl
   occurs_has (leaf (At v k d)) r graph.here = here refl refl refl
   occurs_has (unary o a) r (in1 i) = occurs_has a r i
@@ -47,8 +49,12 @@ module _ (ts : List ℕ) (y : ℕ) where
   -- an edge of the list is a reference that occurs
   has_refers : {z v : ℕ} {k : ℤ} (e : Expr) → Has z v k (references y e) → Refers z v k e
   unfolding meaning references node_references
+  has_refers (leaf (Constant _ _)) h = elim h [ ]
   has_refers (leaf (Now v)) (here p q r) = refers (sym p) q r graph.here
+  has_refers (leaf (Now v)) (later h) = elim h [ ]
   has_refers (leaf (At v k d)) (here p q r) = refers (sym p) q r graph.here
+  has_refers (leaf (At v k d)) (later h) = elim h [ ]
+  has_refers (leaf (Operator _)) h = elim h [ ]
   has_refers (unary o a) h = under a (unary o a) (λ r i. in1 i) (has_refers a h)
   has_refers (binary o a b) h =
       ⊎_elim

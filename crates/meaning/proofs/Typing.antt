@@ -128,9 +128,16 @@ module _ (types : List ℕ) where
   expression_yields s l w place h = rw h at (parse_yields s l w place)
 
   -- a default is read at its stream's type
+  default_here : (v1 : ℕ) (k1 : ℤ) (d1 v : ℕ) (k : ℤ) (d : Value) → Occurs (at v k d) (meaning types (leaf (At v1 k1 d1))) → OfType (get_or types v 0) d
+  unfolding meaning
+  default_here v1 k1 d1 v k d here = reading_of_type (get_or types v1 0) d1
+
   pub default_of_type : (v : ℕ) (k : ℤ) (d : Value) (e : Expr) → Occurs (at v k d) (meaning types e) → OfType (get_or types v 0) d
   unfolding meaning
-  default_of_type v k d (leaf (At v1 k1 d1)) here = reading_of_type (get_or types v1 0) d1
+  default_of_type v k d (leaf (Constant _ _)) h = elim h [ ]
+  default_of_type v k d (leaf (Now _)) h = elim h [ ]
+  default_of_type v k d (leaf (Operator _)) h = elim h [ ]
+  default_of_type v k d (leaf (At v1 k1 d1)) h = default_here v1 k1 d1 v k d h
   default_of_type v k d (unary o a) (in1 i) = default_of_type v k d a i
   default_of_type v k d (binary o a b) (in2a i) = default_of_type v k d a i
   default_of_type v k d (binary o a b) (in2b i) = default_of_type v k d b i

@@ -128,9 +128,16 @@ module _ (types : List ℕ) where
       chosen true x y p q = p
       chosen false x y p q = q
 
+  default_here : (v1 : ℕ) (k1 : ℤ) (d1 : ℕ) → d1 < 2 ^ 32 → (v : ℕ) (k : ℤ) (d : Value) → Occurs (at v k d) (meaning types (leaf (At v1 k1 d1))) → Good d
+  unfolding meaning
+  default_here v1 k1 d1 h v k d here = reading_good (get_or types v1 0) d1 h
+
   default_good : (v : ℕ) (k : ℤ) (d : Value) (e : Expr) → Worded e → Occurs (at v k d) (meaning types e) → Good d
   unfolding meaning Worded
-  default_good v k d (leaf (At v1 k1 d1)) h here = reading_good (get_or types v1 0) d1 h
+  default_good v k d (leaf (Constant _ _)) h o = elim o [ ]
+  default_good v k d (leaf (Now _)) h o = elim o [ ]
+  default_good v k d (leaf (Operator _)) h o = elim o [ ]
+  default_good v k d (leaf (At v1 k1 d1)) h o = default_here v1 k1 d1 h v k d o
   default_good v k d (unary o a) h (in1 i) = default_good v k d a h i
   default_good v k d (binary o a b) h (in2a i) = default_good v k d a h.0 i
   default_good v k d (binary o a b) h (in2b i) = default_good v k d b h.1 i

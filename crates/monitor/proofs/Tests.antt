@@ -2,20 +2,18 @@
 -- Assumes nothing.
 use Prim.Native.Nat.{ℕ, suc, ◌+◌, ◌-◌, ◌<◌, ◌≤◌, ◌^◌}
 use mathlib.Core.Path.{◌≡◌, sym, ap, ◌∙◌}
-use mathlib.Core.Bool.{Bool, false, cond, ◌&&◌}
+use mathlib.Core.Bool.{false, cond, ◌&&◌}
 use mathlib.Core.List.{List}
 use native.Mathlib.Omega.{arith}
 use native.Mathlib.Numerals.{add-one}
 use borrow.Author.Tests.{lt-ltb, le-ltb, le-leb, eq-eqb, ne_eqb}
 use lib.Dec.{ltb, eqb}
 use lib.ListN.{get_or}
-use denote.Enum.Declared.{tag_of}
 use Rattle.limits.specs.Limits.{most_rows}
 use Rattle.prepare.specs.PlanFor.{first_bad_of}
-use Rattle.monitor.specs.contracts.Phase.{the_type}
 use Rattle.monitor.specs.declared.Phase.{Phase}
 use Rattle.monitor.specs.declared.Phase.TheVariants.{Reading, Draining, Over}
-use Rattle.monitor.specs.Refusals.{phase_agrees, record_agrees_of, is_reading_of, is_draining_of}
+use Rattle.monitor.specs.Refusals.{phase_agrees, record_agrees_of}
 use Rattle.monitor.specs.Calls.{closed_phase_of, drained_phase_of}
 
 -- ---- the words of a row
@@ -48,47 +46,25 @@ module _ (rows done closing : ℕ) (within : rows < 2 ^ 32) where
   unfolding record_agrees_of
   in_limit p = let h : rows ≤ most_rows = omega arith in rw (le-leb _ _ h)
 
-  pub agrees_reading : (p : Phase) → tag_of the_type p ≡ 0 → eqb done 0 ≡ record_agrees_of p rows done closing
+  pub agrees_reading : eqb done 0 ≡ record_agrees_of Reading rows done closing
   unfolding phase_agrees
-  agrees_reading Reading h = in_limit Reading
-  agrees_reading Draining h = absurd (omega arith)
-  agrees_reading Over h = absurd (omega arith)
+  agrees_reading = in_limit Reading
 
-  pub agrees_draining : (p : Phase) → tag_of the_type p ≡ 1 → 0 < rows → ltb done closing ≡ record_agrees_of p rows done closing
+  pub agrees_draining : 0 < rows → ltb done closing ≡ record_agrees_of Draining rows done closing
   unfolding phase_agrees
-  agrees_draining Reading h g = absurd (omega arith)
-  agrees_draining Draining h g = sym (rw (lt-ltb _ _ g)) ∙ in_limit Draining
-  agrees_draining Over h g = absurd (omega arith)
+  agrees_draining g = sym (rw (lt-ltb _ _ g)) ∙ in_limit Draining
 
-  pub agrees_none : (p : Phase) → tag_of the_type p ≡ 1 → rows ≤ 0 → false ≡ record_agrees_of p rows done closing
+  pub agrees_none : rows ≤ 0 → false ≡ record_agrees_of Draining rows done closing
   unfolding phase_agrees
-  agrees_none Reading h g = absurd (omega arith)
-  agrees_none Draining h g = sym (rw (le-ltb _ _ g)) ∙ in_limit Draining
-  agrees_none Over h g = absurd (omega arith)
+  agrees_none g = sym (rw (le-ltb _ _ g)) ∙ in_limit Draining
 
-  pub agrees_empty : (p : Phase) → tag_of the_type p ≡ 2 → rows ≡ 0 → eqb done 0 ≡ record_agrees_of p rows done closing
+  pub agrees_empty : rows ≡ 0 → eqb done 0 ≡ record_agrees_of Over rows done closing
   unfolding phase_agrees
-  agrees_empty Reading h g = absurd (omega arith)
-  agrees_empty Draining h g = absurd (omega arith)
-  agrees_empty Over h g = sym (rw (eq-eqb _ _ g)) ∙ in_limit Over
+  agrees_empty g = sym (rw (eq-eqb _ _ g)) ∙ in_limit Over
 
-  pub agrees_over : (p : Phase) → tag_of the_type p ≡ 2 → (rows ≡ 0 → ⊥) → eqb done closing ≡ record_agrees_of p rows done closing
+  pub agrees_over : (rows ≡ 0 → ⊥) → eqb done closing ≡ record_agrees_of Over rows done closing
   unfolding phase_agrees
-  agrees_over Reading h g = absurd (omega arith)
-  agrees_over Draining h g = absurd (omega arith)
-  agrees_over Over h g = sym (rw (ne_eqb _ _ g)) ∙ in_limit Over
-
-pub reading_by : (p : Phase) (n : ℕ) (b : Bool) → tag_of the_type p ≡ n → b ≡ eqb n 0 → b ≡ is_reading_of p
-unfolding is_reading_of
-reading_by Reading n b h e = e ∙ ap (λ (k : ℕ). eqb k 0) (sym h)
-reading_by Draining n b h e = e ∙ ap (λ (k : ℕ). eqb k 0) (sym h)
-reading_by Over n b h e = e ∙ ap (λ (k : ℕ). eqb k 0) (sym h)
-
-pub draining_by : (p : Phase) (n : ℕ) (b : Bool) → tag_of the_type p ≡ n → b ≡ eqb n 1 → b ≡ is_draining_of p
-unfolding is_draining_of
-draining_by Reading n b h e = e ∙ ap (λ (k : ℕ). eqb k 1) (sym h)
-draining_by Draining n b h e = e ∙ ap (λ (k : ℕ). eqb k 1) (sym h)
-draining_by Over n b h e = e ∙ ap (λ (k : ℕ). eqb k 1) (sym h)
+  agrees_over g = sym (rw (ne_eqb _ _ g)) ∙ in_limit Over
 
 module _ (rows closing : ℕ) where
   pub closed_empty : rows ≡ 0 → Over ≡ closed_phase_of rows closing

@@ -1,6 +1,7 @@
 // A run (document 01, "A run"): its record and the calls open, row, close and drain, for every argument.
 // It assumes nothing.
 #![tactic(auto)]
+
 ghost use Rattle.std.specs.Prelude.{◌≡◌, ◌+◌, ◌≤◌, ◌<◌, length};
 ghost use Rattle.limits.specs.Limits.{most_streams};
 ghost use Rattle.limits.specs.Refusals.{foreign_record};

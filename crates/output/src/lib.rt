@@ -1,6 +1,7 @@
 // The output of a turn (document 01, "A run"): records 50 and 51. A writer takes the place where it starts and answers the place behind.
 // `frame` is that of the turn, `known` the number of rows known.
 #![tactic(auto)]
+
 ghost use Rattle.std.specs.Prelude.{length};
 ghost use Rattle.basis.specs.Written.{Wrote};
 ghost use Rattle.output.specs.Encoding.{CanGive, Gives, CanEmit, Emits};

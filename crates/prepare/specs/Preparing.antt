@@ -1,6 +1,6 @@
 -- What a call prepares of the table's bytes by its record's numbers, without the square (document 01, "Every call tests the table
 -- first" and refusal 10). Assumes nothing.
-use Rattle.std.specs.Prelude.{ℕ, ◌+◌, ◌-◌, ◌≡◌, Bool, true, false, List, ◌++◌, length, replicate}
+use Rattle.std.specs.Prelude.{ℕ, ◌-◌, ◌≡◌, Bool, true, false, List, ◌++◌, length, replicate}
 use Rattle.limits.specs.Limits.{most_streams}
 use Rattle.node.specs.Kinds.{Tabulated}
 use Rattle.vouch.specs.Vouching.{Blank}

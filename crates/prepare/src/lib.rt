@@ -1,6 +1,7 @@
 // What a call prepares: the table's bytes tested against the record's numbers in one pass, and what a turn goes by (document 01, "A run").
 // It assumes nothing.
 #![tactic(auto)]
+
 ghost use Rattle.std.specs.Prelude.{◌≡◌, false};
 ghost use Rattle.prepare.specs.Preparing.{brief_by, CanPrepare, Preparing};
 

@@ -1,6 +1,7 @@
 // The records that a turn gives (document 01, "A run"): their kinds and sizes, the room for them, their bytes, and their lines ("The
 // program"). A writer takes the place where it starts and answers the place behind. It assumes nothing.
 #![tactic(auto)]
+
 ghost use Rattle.std.specs.Prelude.{◌≡◌, ◌+◌, ◌*◌, ◌≤◌, ◌<◌, length, take, drop};
 ghost use Rattle.basis.specs.Written.{Wrote};
 ghost use Rattle.limits.specs.Limits.{most_streams};

@@ -1,13 +1,12 @@
 -- What a reader answers is determined: one thing and one place behind it, or one place of a fault, and never both.
 -- So two readers that meet the same contract answer the same. Assumes nothing.
-use Prim.Native.Nat.{ℕ, zero, suc, ◌+◌, ◌≤◌, ◌<◌}
+use Prim.Native.Nat.{ℕ, suc, ◌+◌, ◌≤◌}
 use native.Mathlib.Omega.{arith}
-use mathlib.Core.Path.{◌≡◌, refl, sym, ap, ◌∙◌, subst}
+use mathlib.Core.Path.{◌≡◌, refl, sym, ap, ◌∙◌}
 use mathlib.Core.Logic.{◌⊎◌, inl, inr}
-use mathlib.Core.List.{List, [], ◌∷◌, ◌++◌}
+use mathlib.Core.List.{List, ◌++◌}
 use lib.ListN.{length, drop, get_or}
-use Rattle.basis.proofs.Tests.{lt_or_ge}
-use Rattle.shapes.specs.Forms.{Form, Parts, here, next, Within, Fault, Plain}
+use Rattle.shapes.specs.Forms.{Form, Parts, here, next, Fault, Plain}
 use Rattle.shapes.specs.Stuck.{ended}
 use Rattle.shapes.specs.Places.{Got, Lost}
 use Rattle.shapes.proofs.Forms.{parts_more, parts_before}

@@ -12,7 +12,7 @@ use borrow.Author.Tests.{lt-ltb, le-ltb}
 use Rattle.basis.proofs.Tests.{lt_or_ge}
 use Rattle.lines.specs.Lines.{decimal, hex_digit_of}
 use Rattle.lines.proofs.Decimals.{decimal_below_ten, decimal_by_last_digit}
-use Rattle.shapes.specs.Forms.{Form, Parts, here, next, Within, Fault, Small, none, more, Marked, mark, behind, Plain, Outcome, whole, fault, Reads, word, seq, alt}
+use Rattle.shapes.specs.Forms.{Form, Parts, here, next, Within, Fault, Small, none, more, Marked, mark, behind, Plain, Outcome, whole, fault, Reads, word, seq}
 use Rattle.shapes.specs.Numbers.{number, offset, hex_one, times}
 use Rattle.shapes.proofs.Forms.{parts_more, parts_before, parts_sym, parts_behind, parts_in_right, small_both, word_reads, word_plain, seq_reads, seq_plain, alt_reads, alt_plain}
 

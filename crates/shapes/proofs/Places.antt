@@ -2,20 +2,19 @@
 -- Assumes nothing.
 use Prim.Native.Nat.{ℕ, zero, suc, ◌+◌, ◌*◌, ◌≤◌, ◌<◌}
 use native.Mathlib.Omega.{arith}
-use native.Mathlib.Numerals.{add-one}
 use mathlib.Core.Path.{◌≡◌, refl, sym, ap, ◌∙◌, subst}
 use mathlib.Core.Logic.{◌⊎◌, inl, inr}
 use mathlib.Core.List.{List, [], ◌∷◌, ◌++◌, append_assoc}
 use lib.ListN.{length, get_or, drop, length-append, length-drop, get_or-append, get_or-eq_default}
-use lib.Seq.{drop-cons, drop-append-le, drop-length}
+use lib.Seq.{drop-cons, drop-append-le}
 use Rattle.basis.proofs.Tests.{lt_or_ge}
 use Rattle.lines.specs.Lines.{decimal}
 use Rattle.lines.proofs.Decimals.{decimal_below_ten}
-use Rattle.shapes.specs.Forms.{Form, Parts, here, next, Within, Fault, Small, none, more, Marked, mark, behind, Plain, Outcome, whole, fault, Reads, word, seq, alt}
-use Rattle.shapes.specs.Stuck.{ended, ending, texts_of, Stuck}
+use Rattle.shapes.specs.Forms.{Form, Parts, here, Fault, Small, Marked, mark, behind, Plain, word, seq, alt}
+use Rattle.shapes.specs.Stuck.{ended}
 use Rattle.shapes.specs.Numbers.{number, hex_one}
 use Rattle.shapes.specs.Places.{byte_at, Got, Lost, digits}
-use Rattle.shapes.proofs.Forms.{parts_more, within_more, marked_rest, seq_first, seq_second, then_second, alt_left, alt_right}
+use Rattle.shapes.proofs.Forms.{marked_rest, seq_first, seq_second, then_second, alt_left, alt_right}
 use Rattle.shapes.proofs.Numbers.{number_fault, number_first, decimal_more, hex_fault}
 
 -- a sequence that is lost in its first part

@@ -1,9 +1,9 @@
 -- Readers go by nodes, and what they say holds of trees. Assumes nothing.
 use Prim.Native.Nat.{ℕ, ◌+◌}
-use mathlib.Core.Path.{◌≡◌, sym, ap, ◌∙◌, subst}
+use mathlib.Core.Path.{ap, ◌∙◌}
 use mathlib.Core.List.{List, ◌++◌}
 use lib.ListN.{length, drop}
-use Rattle.shapes.specs.Forms.{Form, Fault}
+use Rattle.shapes.specs.Forms.{Form}
 use Rattle.shapes.specs.Stuck.{ended}
 use Rattle.source.specs.Nodes.{node}
 use Rattle.shapes.specs.Places.{Got, Lost}

@@ -6,10 +6,10 @@ use mathlib.Core.Path.{◌≡◌, refl}
 use mathlib.Core.Bool.{true}
 use mathlib.Core.Logic.{inl}
 use mathlib.Core.List.{List, [], ◌∷◌}
-use Rattle.shapes.specs.Forms.{Form, Small, none, more, Plain, Reads, word, seq}
-use Rattle.shapes.specs.Numbers.{number, offset, hex_one, times}
-use Rattle.shapes.specs.Words.{Pick, first, later, picked, one_of, good_names}
-use Rattle.source.specs.Nodes.{Args, a_byte, a_word, a_level, a_past, nodes, Entry, name_of, hex8, closing, between, operands, args_form, calls, leaves, all, node}
+use Rattle.shapes.specs.Forms.{Form, Small, none, Plain, Reads, word, seq}
+use Rattle.shapes.specs.Numbers.{number, offset, hex_one}
+use Rattle.shapes.specs.Words.{first, picked, one_of, good_names}
+use Rattle.source.specs.Nodes.{Args, a_byte, a_word, a_level, a_past, nodes, Entry, name_of, hex8, closing, between, operands, args_form, calls, node}
 use Rattle.shapes.proofs.Forms.{word_plain, word_reads, seq_plain, seq_reads}
 use Rattle.shapes.proofs.Numbers.{number_plain, number_reads, offset_plain, offset_reads, hex_plain, hex_reads, times_plain, times_some, times_reads}
 use Rattle.shapes.proofs.Words.{names_plain, names_reads, small_by_test}

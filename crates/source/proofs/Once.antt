@@ -1,20 +1,19 @@
 -- One table for each text: what is printed of a table determines it. Assumes nothing.
-use Prim.Native.Nat.{ℕ, zero, suc, ◌+◌, ◌≤◌, ◌<◌}
+use Prim.Native.Nat.{ℕ, ◌+◌, ◌≤◌, ◌<◌}
 use native.Mathlib.Omega.{arith}
 use mathlib.Core.Path.{◌≡◌, refl, sym, ap, ◌∙◌, subst}
 use mathlib.Core.Logic.{◌⊎◌, inl, inr}
 use mathlib.Core.List.{List, [], ◌∷◌, ◌++◌, append_assoc}
 use lib.ListN.{length, get_or, drop}
 use Rattle.lines.specs.Lines.{decimal}
-use Rattle.shapes.specs.Forms.{Form, Parts, here, next, Plain, seq, word}
-use Rattle.shapes.specs.Stuck.{ended, ending, texts_of}
+use Rattle.shapes.specs.Forms.{Parts}
+use Rattle.shapes.specs.Stuck.{ended}
 use Rattle.shapes.specs.Numbers.{number}
-use Rattle.shapes.specs.Words.{partb}
 use Rattle.source.specs.Tables.{table_text}
-use Rattle.source.specs.Words.{table_word, in_word, out_word, eq_word, line_end_of}
+use Rattle.source.specs.Words.{table_word, eq_word, line_end_of}
 use Rattle.source.specs.Trees.{Tree, Fits, print_tree}
-use Rattle.source.specs.Source.{Sort, flags, words, levels, Role, plain, trigger, Output, Equation, Source, sort_name, role_name, in_text, out_text, eq_text, each}
-use Rattle.source.specs.Source.{print_source, Equations, none, more, Ready, source}
+use Rattle.source.specs.Source.{Sort, flags, words, levels, Role, plain, trigger, Output, Equation, Source, in_text, out_text, eq_text, each}
+use Rattle.source.specs.Source.{print_source, Equations, none, more, Ready}
 use Rattle.shapes.proofs.Forms.{parts_more, parts_before, parts_behind}
 use Rattle.shapes.proofs.Words.{parts_by_test}
 use Rattle.shapes.proofs.Answers.{parts_differ}

@@ -7,17 +7,16 @@ use mathlib.Core.Logic.{◌⊎◌, inl, inr, ◌↔◌}
 use mathlib.Core.List.{List, [], ◌∷◌, ◌++◌, append_assoc}
 use lib.ListN.{length, get_or, drop}
 use Rattle.lines.specs.Lines.{decimal}
-use Rattle.shapes.specs.Forms.{Form, Fault, Outcome, whole, fault, seq, alt, word}
+use Rattle.shapes.specs.Forms.{Fault, Outcome, whole, fault}
 use Rattle.shapes.specs.Stuck.{ended, ending, texts_of, Stuck}
-use Rattle.shapes.specs.Numbers.{number}
-use Rattle.shapes.specs.Words.{Pick, first, later, picked, one_of}
+use Rattle.shapes.specs.Words.{Pick, first, later, picked}
 use Rattle.source.specs.Nodes.{node}
 use Rattle.shapes.specs.Places.{Got, Lost}
-use Rattle.source.specs.Tables.{itself, type_name, head_line, in_line, out_line, eq_line, eqs, outs, ins, table_text}
+use Rattle.source.specs.Tables.{in_line, out_line, eq_line, eqs, outs, ins, table_text}
 use Rattle.source.specs.Words.{table_word, in_word, out_word, eq_word, line_end_of, type_names, role_names}
-use Rattle.source.specs.Trees.{Tree, Fits, print_tree, tree}
-use Rattle.source.specs.Source.{Sort, flags, words, levels, Role, plain, trigger, Output, Equation, Source, sort_name, role_name, in_text, out_text, eq_text, each}
-use Rattle.source.specs.Source.{print_source, Equations, none, more, Ready, source}
+use Rattle.source.specs.Trees.{Fits}
+use Rattle.source.specs.Source.{Sort, flags, words, levels, Role, plain, trigger, Output, Equation, sort_name, role_name, in_text, out_text, eq_text, each}
+use Rattle.source.specs.Source.{print_source, Equations, none, more, source}
 use Rattle.shapes.proofs.Forms.{fault_same}
 use Rattle.shapes.proofs.Stuck.{fault_not, fault_stuck, end_once, stuck_once}
 use Rattle.source.proofs.Trees.{Into, node_into, node_from}

@@ -1,17 +1,17 @@
 -- The text of a table is read line by line, and where it leaves the shape is found. Assumes nothing.
-use Prim.Native.Nat.{ℕ, zero, suc, ◌<◌}
+use Prim.Native.Nat.{ℕ, zero, suc}
 use native.Mathlib.Omega.{arith}
 use mathlib.Core.Path.{◌≡◌, refl}
 use mathlib.Core.Bool.{true}
 use mathlib.Core.Logic.{inl}
 use mathlib.Core.List.{List, [], ◌∷◌}
-use Rattle.shapes.specs.Forms.{Form, Small, none, more, Plain, Reads, word, seq, alt}
+use Rattle.shapes.specs.Forms.{Form, Reads, word, seq, alt}
 use Rattle.shapes.specs.Numbers.{number}
-use Rattle.shapes.specs.Words.{Pick, first, later, picked, one_of, good_names, smallb}
+use Rattle.shapes.specs.Words.{first, one_of, good_names, smallb}
 use Rattle.source.specs.Nodes.{node}
 use Rattle.source.specs.Tables.{itself, head_line, type_name, in_line, out_line, eq_line, eqs, outs, ins, table_text}
 use Rattle.source.specs.Words.{table_word, in_word, out_word, eq_word, line_end_of, type_names, role_names}
-use Rattle.shapes.proofs.Forms.{word_plain, word_reads, end_reads, seq_plain, seq_reads, alt_reads}
+use Rattle.shapes.proofs.Forms.{end_reads, seq_reads, alt_reads}
 use Rattle.shapes.proofs.Words.{names_plain, names_reads, small_by_test}
 use Rattle.source.proofs.Nodes.{Part, then, word_part, number_part, node_part}
 

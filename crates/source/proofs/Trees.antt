@@ -1,16 +1,16 @@
 -- The printed trees are the texts of the nodes: each node's text is printed of a tree that fits, and each such tree is printed as a node's text.
 -- Assumes nothing.
-use Prim.Native.Nat.{ℕ, zero, suc, ◌+◌, ◌*◌, ◌/◌, ◌%◌, ◌-◌, ◌≤◌, ◌<◌}
+use Prim.Native.Nat.{ℕ, zero, suc, ◌+◌, ◌*◌, ◌/◌, ◌%◌, ◌≤◌, ◌<◌}
 use native.Mathlib.Omega.{arith}
 use mathlib.Core.Path.{◌≡◌, refl, sym, ap, ◌∙◌, subst}
 use mathlib.Core.Logic.{◌⊎◌, inl, inr}
 use mathlib.Core.List.{List, [], ◌∷◌, ◌++◌}
 use lib.IntN.{ℤ, pos, negsuc}
 use Rattle.lines.specs.Lines.{decimal, hex_digit_of, hex2, hex8}
-use Rattle.shapes.specs.Forms.{Form, Parts, word, seq}
-use Rattle.shapes.specs.Numbers.{number, offset, hex_one, times}
-use Rattle.shapes.specs.Words.{Pick, first, later, picked, one_of}
-use Rattle.source.specs.Nodes.{Args, Entry, name_of, hex8 as eight, args_form, calls, leaves, all, node}
+use Rattle.shapes.specs.Forms.{Form, Parts, word}
+use Rattle.shapes.specs.Numbers.{offset}
+use Rattle.shapes.specs.Words.{Pick, first, later, picked}
+use Rattle.source.specs.Nodes.{Args, Entry, hex8 as eight, args_form, calls, leaves, all, node}
 use Rattle.source.specs.Trees.{Two, and, or, add_word, sub_word, ahead, less_word, equal_word, equal_flag, equal_level, add_level, sub_level, mul, div, less_level, Tree, flag, number_word, level, now, past, not, two, choose, two_name_of, signed, print_tree}
 use Rattle.source.specs.Trees.{Ranged, plus, minus, Fits, flag_fits, word_fits, level_fits, now_fits, past_fits, not_fits, two_fits, choose_fits, tree}
 use Rattle.source.proofs.Nodes.{node_part}

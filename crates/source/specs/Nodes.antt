@@ -1,9 +1,9 @@
 -- The nodes of a table as text, with the levels that are left below: at the last level only the five leaves can stand.
 -- Assumes nothing.
-use Rattle.std.specs.Prelude.{ℕ, zero, suc, List, [], ◌∷◌, ◌++◌}
+use Rattle.std.specs.Prelude.{ℕ, zero, suc, List, [], ◌∷◌}
 use Rattle.shapes.specs.Forms.{Form, word, seq}
 use Rattle.shapes.specs.Numbers.{number, offset, hex_one, times}
-use Rattle.shapes.specs.Words.{Pick, picked, one_of}
+use Rattle.shapes.specs.Words.{picked, one_of}
 use Rattle.source.specs.Words.{close, comma, flag_name, word_name, level_name, now_name, at_name, not_name, and_name, or_name, if_name, add_word_name, sub_word_name, ahead_name}
 use Rattle.source.specs.Words.{less_word_name, equal_word_name, equal_flag_name, equal_level_name, add_level_name, sub_level_name, mul_name, div_name, less_level_name}
 

@@ -1,5 +1,5 @@
 -- The text of a table, line by line, with its end marked. Assumes nothing.
-use Rattle.std.specs.Prelude.{ℕ, zero, suc, List, [], ◌∷◌, ◌++◌}
+use Rattle.std.specs.Prelude.{ℕ, zero, suc, List, [], ◌∷◌}
 use Rattle.shapes.specs.Forms.{Form, word, seq, alt}
 use Rattle.shapes.specs.Numbers.{number}
 use Rattle.shapes.specs.Words.{one_of}

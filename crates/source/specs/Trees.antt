@@ -1,6 +1,6 @@
 -- A table's expressions as trees, and how they are printed: "Operators carry 01's names and operand counts" (C-12).
 -- Assumes nothing.
-use Rattle.std.specs.Prelude.{ℕ, zero, suc, ◌≤◌, ◌<◌, List, [], ◌∷◌, ◌++◌, ℤ, pos, negsuc}
+use Rattle.std.specs.Prelude.{ℕ, suc, ◌≤◌, List, [], ◌∷◌, ◌++◌, ℤ, pos, negsuc}
 use Rattle.lines.specs.Lines.{decimal, hex8}
 use Rattle.shapes.specs.Ascii.{ascii}
 use Rattle.shapes.specs.Forms.{Form}

@@ -9,7 +9,7 @@ use lib.IntN.{pos, negsuc}
 use lib.ListN.{length, get_or, get_or-eq_default}
 use Rattle.basis.proofs.Tests.{lt_or_ge}
 use Rattle.shapes.specs.Forms.{Form, word, seq, none, more}
-use Rattle.shapes.specs.Numbers.{number, offset}
+use Rattle.shapes.specs.Numbers.{number}
 use Rattle.shapes.specs.Places.{byte_at, Got, digits}
 use Rattle.shapes.proofs.Forms.{word_plain}
 use Rattle.shapes.proofs.Places.{digits_one, digits_more, number_got, number_lost_first, word_lost, byte_got, seq_got, seq_lost_first, seq_lost_second, alt_got_left, alt_got_right, alt_lost_left, alt_lost_right}

@@ -1,7 +1,8 @@
 // Readers of a word, a number, an offset and eight hex digits at a place of a text (request C-12). Each answers what it read and the place
 // behind it, or the place where the text leaves what may stand there. It assumes nothing.
 #![tactic(auto)]
-ghost use Rattle.std.specs.Prelude.{◌≡◌, ℕ, ◌+◌, ◌≤◌, ◌<◌, length};
+
+ghost use Rattle.std.specs.Prelude.{◌≡◌, ◌+◌, ◌≤◌, ◌<◌, length};
 ghost use Rattle.shapes.specs.Places.{byte_at};
 ghost use Rattle.source.specs.Words.{many_words, word_of};
 ghost use Rattle.words.specs.Rows.{Tabulated};

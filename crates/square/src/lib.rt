@@ -69,7 +69,9 @@ fn relax_row(row: [i64; STREAMS_MOST], via: [i64; STREAMS_MOST], left: i64) -> [
     out
 }
 
-// The square relaxed through one stream more. The new one is built from the old, so that all cells change at once.
+// The square relaxed through one stream more. The new one is built from the old, so that all cells change at once. (It is kept out of line,
+// as two others below: in one frame the compiler keeps more copies of the square at once, and the check would take 8 KiB of stack more.)
+#[inline(never)]
 fn relax(d: [[i64; STREAMS_MOST]; STREAMS_MOST], k: usize) -> [[i64; STREAMS_MOST]; STREAMS_MOST]
     requires { (k < most_streams) × AllSmall 61 d }
     ensures { (i j : ℕ) → i < most_streams → j < most_streams → cell result i j ≡ relax_b (cell d i j) (cell d i k) (cell d k j) }
@@ -100,6 +102,7 @@ fn longest(a: [[i64; STREAMS_MOST]; STREAMS_MOST], s: usize) -> [[i64; STREAMS_M
 }
 
 // Whether the diagonal is below 0 at every stream below `s`.
+#[inline(never)]
 fn loops_below(d: [[i64; STREAMS_MOST]; STREAMS_MOST], s: usize) -> bool
     requires { s ≤ most_streams }
     ensures { result ≡ loops_below_of (cell d) s }
@@ -192,6 +195,7 @@ fn edges_into(a: [[i64; STREAMS_MOST]; STREAMS_MOST], v: usize) -> [i64; STREAMS
 }
 
 // Whether a walk of 1 to `s` edges leads from `v` back to it and totals 0 or more. The relaxed square cannot tell: it counts longer walks.
+#[inline(never)]
 fn short_loop(a: [[i64; STREAMS_MOST]; STREAMS_MOST], v: usize, s: usize) -> bool
     requires { (s ≤ most_streams) × (v < most_streams) × AllSmall 7 a }
     ensures { result ≡ short_loop_of s (cell a) v }

@@ -7,10 +7,10 @@ use mathlib.Core.Logic.{⊎_elim}
 use mathlib.Core.List.{List, [], ◌∷◌, ◌++◌}
 use lib.IntN.{ℤ}
 use lib.ListN.{length, get_or}
-use Rattle.basis.specs.Edges.{Has, here}
+use Rattle.basis.specs.Edges.{Has, here, later}
 use Rattle.basis.proofs.Edges.{has_before, has_after, has_either}
 use Rattle.node.specs.declared.Node.{Node}
-use Rattle.node.specs.declared.Node.TheVariants.{Constant, Now, At}
+use Rattle.node.specs.declared.Node.TheVariants.{Constant, Now, At, Operator}
 use Rattle.expression.specs.Syntax.{Expr, leaf, unary, binary, ternary}
 use Rattle.expression.specs.References.{node_references, references}
 use Rattle.table.specs.Table.{Equation, Table, streams, equation_of, edges_from, edges}
@@ -19,6 +19,10 @@ node_from : {y z v : ℕ} {k : ℤ} (n : Node) → Has z v k (node_references y 
 unfolding node_references
 node_from (Now w) (here p q r) = sym p
 node_from (At w j d) (here p q r) = sym p
+node_from (Constant _ _) h = elim h [ ]
+node_from (Now w) (later h) = elim h [ ]
+node_from (At w j d) (later h) = elim h [ ]
+node_from (Operator _) h = elim h [ ]
 
 -- a reference of y's expression leaves y
 pub references_from : {y z v : ℕ} {k : ℤ} (e : Expr) → Has z v k (references y e) → z ≡ y
@@ -44,6 +48,7 @@ data Of (qs : List Equation) (d : Equation) (y z v : ℕ) (k : ℤ) : Type 0 whe
 
 edges_of : {z v : ℕ} {k : ℤ} (y : ℕ) (qs : List Equation) (d : Equation) → Has z v k (edges_from y qs) → Of qs d y z v k
 unfolding edges_from
+edges_of y [] d h = elim h [ ]
 edges_of {z} {v} {k} y (q ∷ qs) d h = ⊎_elim first (λ l. next (edges_of (y + 1) qs d l)) (has_either (references y q.expr) h)
   where
     first : Has z v k (references y q.expr) → Of (q ∷ qs) d y z v k

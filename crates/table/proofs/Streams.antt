@@ -130,7 +130,7 @@ unfolding declared
 declared_within zero i v s at h = h
 declared_within (suc n) i v s at h =
     fine_case (EndsWithin (length s)) (eqb (stream_fault_of (side_of i v) s at) 0) _ _
-    (λ p. within_before (length s) _ _ (declared n i (v + 1) s (behind (side_of i v) at)) (declared_within n i (v + 1) s (behind (side_of i v) at) (stream_room (side_of i v) s at (side_low i v) (eqb-true _ _ p))))
+    (λ p. within_before (length s) (get_or s (at + 1) 0 ∷ []) (role_at (side_of i v) s at ∷ []) (declared n i (v + 1) s (behind (side_of i v) at)) (declared_within n i (v + 1) s (behind (side_of i v) at) (stream_room (side_of i v) s at (side_low i v) (eqb-true _ _ p))))
     (λ _. tt)
 
 pub heads_within : (s : List ℕ) → EndsWithin (length s) (heads s)

@@ -1,6 +1,7 @@
 // The scan of a table: what stands before the first equation, one equation, the whole table (document 01, "The table"; refusals 1 to 6
 // and 9). `kinds` is the constant table by kind.
 #![tactic(auto)]
+
 ghost use Rattle.std.specs.Prelude.{◌≡◌, List, ℕ, ◌+◌, ◌-◌, ◌≤◌, ◌<◌, length, get_or, take, replicate};
 ghost use Rattle.limits.specs.Limits.{most_streams};
 ghost use Rattle.node.specs.Kinds.{rule_of, many_kinds, Tabulated};

@@ -137,7 +137,7 @@ module _ (i s : ℕ) (ts bytes : List ℕ) (at : ℕ) (look : ℕ → ℕ) where
         let own : Equation = record { start = next + 2; expr = b.0 } in
         let c = joined_parsed own (equations_at_of (s - (y + 1)) (y + 1) ts bytes b.1) b.3 in
         let l = lacks b.0 b.1 b.2 in
-        rw (a.2, c.1) (record { y = l.y; v = l.v; k = l.k; has = has_among i y p.done own c.0 p.reached l.has; lacks = l.lacks })
+        rw (a.2, c.1) (record { y = l.y; v = l.v; k = l.k; has = has_among i y p.done own c.0 p.reached {a = l.y} {v = l.v} {k = l.k} l.has; lacks = l.lacks })
 
     pub pass_refused : y < s → ((e : Expr) (n : ℕ) → equation_at ts bytes y next ≡ good e n → Lacks look (references y e)) → (end : ℕ) (kept : ℕ → ℕ) →
         (qs : List Equation) → equations_at_of (s - i) i ts bytes at ≡ equated qs end → Within (Among (edges_from i qs)) s → Right (Among (edges_from i qs)) s look kept → ⊥

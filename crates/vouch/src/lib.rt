@@ -1,6 +1,7 @@
 // A record's numbers vouched for against the table's bytes in one pass over them, without the square of longest walks (document 01, "Every call
 // tests the table first", refusal 10). It assumes nothing.
 #![tactic(auto)]
+
 ghost use Rattle.std.specs.Prelude.{◌≡◌, false, ◌-◌, length, take};
 ghost use Rattle.basis.specs.Firsts.{of};
 ghost use Rattle.node.specs.Kinds.{Tabulated};

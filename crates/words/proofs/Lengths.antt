@@ -2,14 +2,14 @@
 use Prim.Native.Nat.{ℕ, zero, suc, ◌<◌, ◌≤◌}
 use native.Mathlib.Omega.{arith}
 use mathlib.Core.Path.{◌≡◌, refl, ap, ◌∙◌}
-use mathlib.Core.Bool.{Bool, true, ◌&&◌}
+use mathlib.Core.Bool.{true, ◌&&◌}
 use mathlib.Core.List.{List, [], ◌∷◌, ◌++◌}
 use lib.Dec.{ltb}
 use lib.ListN.{length, get_or}
 use borrow.Author.Tests.{ltb-true}
 use Rattle.basis.proofs.Tests.{and_true}
 use Rattle.node.proofs.Tabulated.{same_on}
-use Rattle.source.specs.Words.{many_words, word_of, blank}
+use Rattle.source.specs.Words.{many_words, word_of}
 use Rattle.words.specs.Rows.{padded, row_of}
 
 behind_padding : (n : ℕ) (w : List ℕ) (x : ℕ) → get_or (padded n w ++ (x ∷ [])) n 0 ≡ x

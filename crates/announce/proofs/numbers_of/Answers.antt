@@ -1,7 +1,6 @@
 -- `numbers_of`: refusal 8, or the numbers.
 -- Assumes nothing.
 use native.Mathlib.Omega.{arith}
-use borrow.Author.Rules.{rules}
 use mathlib.Core.Path.{ap, ◌∙◌}
 use Prim.Native.Nat.{◌-◌}
 use lib.ListN.{get_or}

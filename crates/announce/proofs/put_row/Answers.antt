@@ -1,13 +1,10 @@
 -- `put_row`: the loop has written the first v numbers of the row.
 -- Assumes nothing.
 use mathlib.Core.Path.{sym}
-use Prim.Native.Nat.{◌-◌, ◌≤◌}
 use native.Mathlib.Omega.{arith}
 use borrow.Author.Rules.{rules}
-use Rattle.limits.specs.Limits.{most_streams}
-use Rattle.basis.specs.Rows.{column}
 use Rattle.basis.proofs.Rows.{column_at}
-use Rattle.announce.proofs.Rows.{RowBegun, none_begun, one_more, row_put}
+use Rattle.announce.proofs.Rows.{none_begun, one_more, row_put}
 use Rattle.announce.proofs.put_row.Goals as goal
 
 pub loop-v-init : goal.loop-v-init

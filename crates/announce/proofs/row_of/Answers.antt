@@ -1,11 +1,9 @@
 -- `row_of`: the first v numbers are those of the row y.
 -- Assumes nothing.
 use mathlib.Core.Path.{refl}
-use Prim.Native.Nat.{◌-◌, ◌≤◌}
 use native.Mathlib.Omega.{arith}
 use borrow.Author.Rules.{rules}
-use Rattle.limits.specs.Limits.{most_streams}
-use Rattle.announce.proofs.Rows.{RowTaken, none_taken, one_taken}
+use Rattle.announce.proofs.Rows.{none_taken, one_taken}
 use Rattle.announce.proofs.row_of.Goals as goal
 
 pub loop-v-init : goal.loop-v-init

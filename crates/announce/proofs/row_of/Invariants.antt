@@ -1,11 +1,8 @@
 -- `row_of`: the first v numbers are those of the row y.
 -- Assumes nothing.
-use mathlib.Core.Path.{refl}
 use Prim.Native.Nat.{◌-◌, ◌≤◌}
-use native.Mathlib.Omega.{arith}
-use borrow.Author.Rules.{rules}
 use Rattle.limits.specs.Limits.{most_streams}
-use Rattle.announce.proofs.Rows.{RowTaken, none_taken, one_taken}
+use Rattle.announce.proofs.Rows.{RowTaken}
 use Rattle.announce.proofs.row_of.Given as goal
 
 abbrev pub invariant-loop-v : goal.invariant-loop-v

@@ -1,11 +1,9 @@
 -- `square_of`: the rows below y are those of the array.
 -- Assumes nothing.
-use Prim.Native.Nat.{◌-◌, ◌≤◌}
 use native.Mathlib.Omega.{arith}
 use borrow.Author.Rules.{rules}
 use mathlib.Core.Path.{refl}
-use Rattle.limits.specs.Limits.{most_streams}
-use Rattle.announce.proofs.Cells.{SquareTo, no_rows, row_more}
+use Rattle.announce.proofs.Cells.{no_rows, row_more}
 use Rattle.announce.proofs.square_of.Goals as goal
 
 pub loop-y-init : goal.loop-y-init

@@ -1,6 +1,5 @@
 -- `weigh_scan`: the square of the table's edges decides refusal 7, its numbers refusal 8.
 -- Assumes nothing.
-use borrow.Author.Rules.{rules}
 use Rattle.announce.proofs.Weighing.{scan_bounds}
 use Rattle.announce.proofs.Numbers.{all_small, fitting, seven, weighed_numbers}
 use Rattle.announce.proofs.weigh_scan.Goals as goal

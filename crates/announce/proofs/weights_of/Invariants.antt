@@ -1,13 +1,11 @@
 -- `weights_of`: the loop has put the weights of the equations below y.
 -- Assumes nothing.
 use Prim.Native.Nat.{◌-◌, ◌≤◌}
-use native.Mathlib.Omega.{arith}
-use mathlib.Core.Path.{◌≡◌, refl, ◌∙◌}
+use mathlib.Core.Path.{◌≡◌}
 use lib.ListN.{length}
 use Rattle.limits.specs.Limits.{most_streams, most_pairs}
 use Rattle.table.specs.Table.{Table}
 use Rattle.announce.specs.Rows.{Arrays, WeighsTo}
-use Rattle.announce.proofs.Weighing.{all_seen, can_scan, weights_more, weights_all, arrays_of, scan_bounds, types_length, scanning_start}
 use Rattle.announce.proofs.weights_of.Given as goal
 
 abbrev pub invariant-loop-y : goal.invariant-loop-y

@@ -1,14 +1,16 @@
 -- `number_of`: one byte for each phase.
 -- Assumes nothing.
-use borrow.Author.Rules.{rules}
-use Rattle.dock.proofs.Phases.{number_is}
+use Rattle.dock.specs.Lent.{number_of}
 use Rattle.dock.proofs.number_of.Goals as goal
 
 pub returns-in-Reading : goal.returns-in-Reading
-returns-in-Reading c = number_is _ c.in-Over.keys1
+unfolding number_of
+returns-in-Reading c = rw c.in-Reading.is
 
 pub returns-in-Draining : goal.returns-in-Draining
-returns-in-Draining c = number_is _ c.in-Over.keys2
+unfolding number_of
+returns-in-Draining c = rw c.in-Draining.is
 
 pub returns-in-Over : goal.returns-in-Over
-returns-in-Over c = number_is _ c.in-Over.keys3
+unfolding number_of
+returns-in-Over c = rw c.in-Over.is

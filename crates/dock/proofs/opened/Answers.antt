@@ -1,8 +1,7 @@
 -- `opened`: the run's own opening.
 -- Assumes nothing.
-use borrow.Author.Rules.{rules}
 use Rattle.dock.proofs.Giving.{gives_opened}
 use Rattle.dock.proofs.opened.Goals as goal
 
 pub returns : goal.returns
-returns c = gives_opened _ _ c.reply_of.ensures c.«open».ensures
+returns c = gives_opened _ _ c.reply_of.ensures c.open-answer.ensures

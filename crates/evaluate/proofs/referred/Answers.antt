@@ -1,11 +1,10 @@
 -- `evaluate::referred` meets its contract: the three ways of a reference: inside, below 0, past the rows known.
 -- Assumes nothing.
-use mathlib.Core.Logic.{⊎_elim}
 use mathlib.Core.Path.{◌∙◌}
 use native.Mathlib.Omega.{arith}
-use borrow.Author.Rules.{rules}
 use Rattle.evaluate.proofs.References.{refers_to, default_below, held_inside, default_past}
 use Rattle.evaluate.proofs.referred.Goals as goal
+use Rattle.evaluate.proofs.referred.Goals.{then-noted-ge-RISE_OF_ZERO+else-q-word_wide, else-noted-ge-RISE_OF_ZERO}
 
 pub read-requires : goal.read-requires
 read-requires c = c.requires.found _ (refers_to c.ranges.k c.word_wide.ensures.0 (c.short_wide.ensures.0 ∙ c.rising_of.ensures) c.if-noted-ge-RISE_OF_ZERO.true) (omega (arith, c.if-q-word_wide.true, c.word_wide-then-noted-ge-RISE_OF_ZERO.ensures.0))
@@ -14,4 +13,8 @@ pub returns-then-q-word_wide : goal.returns-then-q-word_wide
 returns-then-q-word_wide c = held_inside c.ranges.k c.word_wide.ensures.0 (c.short_wide.ensures.0 ∙ c.rising_of.ensures) _ _ _ _ c.word_wide-then-noted-ge-RISE_OF_ZERO.ensures.0 c.if-noted-ge-RISE_OF_ZERO.true c.if-q-word_wide.true c.read.ensures
 
 pub returns : goal.returns
-returns c = ⊎_elim (λ w. default_past c.ranges.k c.word_wide.ensures.0 (c.short_wide.ensures.0 ∙ c.rising_of.ensures) _ _ _ _ w.word_wide-then-noted-ge-RISE_OF_ZERO.ensures.0 w.if-noted-ge-RISE_OF_ZERO.true w.if-q-word_wide.false c.reading.ensures) (λ w. default_below c.ranges.k c.word_wide.ensures.0 (c.short_wide.ensures.0 ∙ c.rising_of.ensures) _ _ _ _ w.left c.reading.ensures) c.if-noted-ge-RISE_OF_ZERO.branch-raw
+returns c = elim c.if-noted-ge-RISE_OF_ZERO.branch [
+  | then-noted-ge-RISE_OF_ZERO+else-q-word_wide w ↦
+      default_past c.ranges.k c.word_wide.ensures.0 (c.short_wide.ensures.0 ∙ c.rising_of.ensures) _ _ _ _ w.word_wide-then-noted-ge-RISE_OF_ZERO.ensures.0 w.if-noted-ge-RISE_OF_ZERO.true w.if-q-word_wide.false c.reading.ensures
+  | else-noted-ge-RISE_OF_ZERO w ↦ default_below c.ranges.k c.word_wide.ensures.0 (c.short_wide.ensures.0 ∙ c.rising_of.ensures) _ _ _ _ w.if-noted-ge-RISE_OF_ZERO.false c.reading.ensures
+]

@@ -1,18 +1,10 @@
 -- `evaluate::turn` meets its contract: its loop goes through the streams by rank, over the frame that it lays.
 -- Assumes nothing.
-use mathlib.Core.Path.{◌≡◌, refl, sym, ap, ◌∙◌}
-use mathlib.Core.Logic.{⊎_elim}
-use Prim.Native.Nat.{◌+◌, ◌-◌, ◌≤◌}
-use native.Mathlib.Omega.{arith}
-use borrow.Author.Rules.{rules}
-use borrow.Author.Tests.{ltb-true, ltb-false}
+use mathlib.Core.Path.{◌≡◌}
+use Prim.Native.Nat.{◌-◌, ◌≤◌}
 use lib.ListN.{length}
 use Rattle.store.specs.Store.{lent_in, Framed}
-use Rattle.store.proofs.Frames.{framed_put, position_put, framed_lent, lent_put, lent_is}
-use Rattle.evaluate.proofs.Heads.{standing_at}
-use Rattle.evaluate.proofs.Operands.{evaluates_as}
-use Rattle.evaluate.proofs.Steps.{Stepped, can_lay, row_long, due_findable, equation_readable, input_written, output_written, late_leaves, early_leaves, step_long, framed_as}
-use Rattle.evaluate.proofs.Turns.{Upto, moved, named_by, upto_none, upto_more, upto_all}
+use Rattle.evaluate.proofs.Turns.{Upto}
 use Rattle.evaluate.proofs.turn.Given as goal
 
 abbrev pub invariant-loop-i : goal.invariant-loop-i

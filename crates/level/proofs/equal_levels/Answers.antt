@@ -2,7 +2,6 @@
 -- Assumes nothing.
 use mathlib.Core.Path.{ap₂}
 use lib.Dec.{eqb}
-use borrow.Author.Rules.{rules}
 use Rattle.level.proofs.equal_levels.Goals as goal
 
 pub returns : goal.returns

@@ -2,7 +2,6 @@
 -- Assumes nothing.
 use mathlib.Core.Path.{sym, ap, ◌∙◌}
 use lib.Ieee.{binary32, to_bits}
-use borrow.Author.Rules.{rules}
 use Rattle.level.proofs.Bits.{same_is_no_nan, differs_is_nan, nan_image}
 use Rattle.level.proofs.image_of.Goals as goal
 

@@ -3,7 +3,6 @@
 use mathlib.Core.Path.{sym, ◌∙◌, subst}
 use mathlib.Core.Bool.{Bool, not}
 use lib.Dec.{T}
-use borrow.Author.Rules.{rules}
 use Rattle.level.proofs.Bits.{nan_made, reads_nan}
 use Rattle.level.proofs.level_of.Goals as goal
 

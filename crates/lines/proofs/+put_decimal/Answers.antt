@@ -1,25 +1,10 @@
--- The digits in front by the call of itself, then the last two. The measure is the number. Assumes nothing.
-use Prim.Native.Nat.{ℕ, ◌<◌}
+-- The digits in front by the call of itself, then the last two. Assumes nothing.
 use mathlib.Core.Path.{ap}
-use borrow.Author.Rules.{rules}
 use native.Mathlib.Omega.{arith}
 use lib.ListN.{length}
 use Rattle.basis.proofs.Written.{then, wrote_as}
 use Rattle.lines.proofs.Decimals.{decimal_below_ten, decimal_below_hundred, decimal_by_last_two, two_more_digits}
 use Rattle.lines.proofs.+put_decimal.Goals as goal
-
-abbrev μ_put_decimal : Measures 1 put-decimal-kinds.ps ℕ
-μ_put_decimal κs a = a.1.1.0
-
--- what `put_decimal` is given at the measure t, and what a call of it asks below t
-abbrev at_measure : ℕ → In 1 put-decimal-kinds.ps
-at_measure t = and 1 put-decimal-kinds.ps (is 1 put-decimal-kinds.ps μ_put_decimal t) put-decimal.Pre
-
-abbrev below : ℕ → In 1 put-decimal-kinds.ps
-below t = and 1 put-decimal-kinds.ps (falls 1 put-decimal-kinds.ps ◌<◌ μ_put_decimal t) put-decimal.Pre
-
-abbrev calls : ℕ → lts.Claims
-calls t = (put-byte-reads.Asked, put-byte-reads.Learnt, put-two-reads.Asked, put-two-reads.Learnt, below t, put-decimal.Post)
 
 pub put_byte-requires : goal.put_byte-requires
 put_byte-requires t c = omega (arith, ap length (decimal_below_ten _ c.if-x-lt10.true))

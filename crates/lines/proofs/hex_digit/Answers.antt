@@ -1,5 +1,4 @@
 -- A digit below 10, and one from 10 on. Assumes nothing.
-use borrow.Author.Rules.{rules}
 use borrow.Author.Tests.{lt-ltb, le-ltb}
 use Rattle.lines.specs.Lines.{hex_digit_of}
 use Rattle.lines.proofs.hex_digit.Goals as goal

@@ -1,5 +1,4 @@
 -- The word `end` and the number, then the line's end. Assumes nothing.
-use borrow.Author.Rules.{rules}
 use native.Mathlib.Omega.{arith}
 use Rattle.basis.proofs.Written.{then}
 use Rattle.lines.specs.Lines.{end_line}

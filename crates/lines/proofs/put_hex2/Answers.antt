@@ -1,5 +1,4 @@
 -- The high digit, then the low one. Assumes nothing.
-use borrow.Author.Rules.{rules}
 use Rattle.basis.proofs.Written.{then, wrote_as}
 use Rattle.lines.proofs.put_hex2.Goals as goal
 

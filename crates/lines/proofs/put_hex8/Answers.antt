@@ -1,5 +1,4 @@
 -- The four bytes, the most significant first. Assumes nothing.
-use borrow.Author.Rules.{rules}
 use Rattle.basis.proofs.Written.{then}
 use Rattle.lines.specs.Lines.{hex8}
 use Rattle.lines.proofs.put_hex8.Goals as goal

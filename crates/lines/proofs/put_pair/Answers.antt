@@ -1,5 +1,4 @@
 -- The letter, then the two numbers. Assumes nothing.
-use borrow.Author.Rules.{rules}
 use native.Mathlib.Omega.{arith}
 use Rattle.basis.proofs.Written.{then}
 use Rattle.lines.proofs.put_pair.Goals as goal

@@ -1,5 +1,4 @@
 -- The blank, then the digits. Assumes nothing.
-use borrow.Author.Rules.{rules}
 use Rattle.basis.proofs.Written.{then}
 use Rattle.lines.proofs.put_spaced.Goals as goal
 

@@ -1,6 +1,5 @@
 -- The first digit, then the second. Assumes nothing.
 use mathlib.Core.Path.{refl}
-use borrow.Author.Rules.{rules}
 use Rattle.basis.proofs.Written.{then, wrote_as}
 use Rattle.lines.proofs.put_two.Goals as goal
 

@@ -1,12 +1,8 @@
 -- `first_bad`: the inputs before i have good words.
 -- Assumes nothing.
-use mathlib.Core.Path.{◌≡◌, sym, ◌∙◌}
-use native.Mathlib.Omega.{arith}
-use borrow.Author.Rules.{rules}
-use mathlib.Core.Logic.{⊎_elim}
+use mathlib.Core.Path.{◌≡◌}
 use Prim.Native.Nat.{◌-◌, ◌≤◌}
 use Rattle.prepare.specs.PlanFor.{first_bad_of}
-use Rattle.monitor.proofs.Tests.{bad_here, good_word, other_type, none_bad, all_inputs}
 use Rattle.monitor.proofs.first_bad.Given as goal
 
 abbrev pub invariant-loop-i : goal.invariant-loop-i

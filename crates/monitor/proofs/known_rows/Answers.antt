@@ -2,7 +2,6 @@
 -- Assumes nothing.
 use Prim.Native.Nat.{ℕ, ◌+◌}
 use mathlib.Core.Path.{ap}
-use borrow.Author.Rules.{rules}
 use Rattle.monitor.proofs.known_rows.Goals as goal
 
 pub returns-else-drains : goal.returns-else-drains

@@ -1,7 +1,6 @@
 -- `open`: refused by the table, refused for a short store, or opened.
 -- Assumes nothing.
 use mathlib.Core.Path.{ap, ◌∙◌}
-use borrow.Author.Rules.{rules}
 use Rattle.monitor.specs.Calls.{refused_with, zero_run}
 use Rattle.monitor.proofs.Leaving.{accepted_as, opens_by, opening_table, opening_short, opening_taken}
 use Rattle.monitor.proofs.open.Goals as goal

@@ -1,7 +1,6 @@
 -- `turn_out`: the store, then the output of what it holds.
 -- Assumes nothing.
 use native.Mathlib.Omega.{arith}
-use borrow.Author.Rules.{rules}
 use Rattle.store.proofs.Frames.{blank_shaped}
 use Rattle.prepare.proofs.Held.{some_held, few_held, some_kept, words_held, ready, room_held}
 use Rattle.monitor.proofs.Turning.{turned}
@@ -16,7 +15,7 @@ emit-requires c = record {
   kept = c.args.kept.now;
   framed = c.turn.ensures.1;
   some = some_kept c.requires.prepares;
-  stored = omega (arith, words_held c.requires.prepares, c.turn.auto.1.1.0, c.requires.store_long);
+  stored = omega (arith, words_held c.requires.prepares, c.turn.auto.store, c.requires.store_long);
   outputs = some_held c.requires.prepares;
   few = few_held c.requires.prepares;
   rows = c.requires.rows_fit;

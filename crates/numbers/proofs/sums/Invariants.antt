@@ -1,13 +1,9 @@
 -- `sums`: the sums and the largest of the numbers below v, each of which is at most 65,535.
 -- Assumes nothing.
-use mathlib.Core.Path.{◌≡◌, refl}
-use mathlib.Core.Logic.{⊎_elim}
-use Prim.Native.Nat.{ℕ, ◌-◌, ◌*◌, ◌≤◌}
-use native.Mathlib.Omega.{arith}
-use borrow.Author.Rules.{rules}
+use mathlib.Core.Path.{◌≡◌}
+use Prim.Native.Nat.{◌-◌, ◌*◌, ◌≤◌}
 use Rattle.basis.specs.Firsts.{of}
 use Rattle.basis.specs.Sums.{total, most}
-use Rattle.basis.proofs.Sums.{sum_on, most_more}
 use Rattle.numbers.proofs.sums.Given as goal
 
 abbrev pub invariant-loop-v : goal.invariant-loop-v

@@ -1,10 +1,8 @@
 -- `zero_past`: what was joined up to v is 0 exactly where both numbers are 0 from s up to v.
 -- Assumes nothing.
 use Prim.Native.Nat.{◌-◌, ◌≤◌}
-use native.Mathlib.Omega.{arith}
-use borrow.Author.Rules.{rules}
 use Rattle.limits.specs.Limits.{most_streams}
-use Rattle.numbers.proofs.Past.{Joined, joined_start, joined_on, joined_end}
+use Rattle.numbers.proofs.Past.{Joined}
 use Rattle.numbers.proofs.zero_past.Given as goal
 
 abbrev pub invariant-loop-v : goal.invariant-loop-v

@@ -1,11 +1,7 @@
 -- `output::emit` meets its contract: its loop goes through the outputs in stream order.
 -- Assumes nothing.
 use native.Mathlib.Omega.{arith}
-use mathlib.Core.List.{List}
-use Prim.Native.Nat.{ℕ, ◌-◌, ◌≤◌}
-use Rattle.store.specs.Store.{Framed}
-use Rattle.output.specs.Encoding.{output_of}
-use Rattle.output.proofs.Gives.{GivenBelow, given_none, given_more, given_all, room_here, keeps_some, can_give}
+use Rattle.output.proofs.Gives.{given_none, given_more, given_all, room_here, keeps_some, can_give}
 use Rattle.output.proofs.emit.Goals as goal
 
 pub loop-y-init : goal.loop-y-init

@@ -1,12 +1,10 @@
 -- `output::give` meets its contract: not due, or a record 50 with or without a record 51 behind it.
 -- Assumes nothing.
-use borrow.Author.Rules.{rules}
 use native.Mathlib.Omega.{arith}
 use Prim.Native.Nat.{◌-◌}
 use Rattle.records.proofs.Sizes.{value_record_length}
 use Rattle.output.proofs.Wrotes.{wrote_none}
 use Rattle.output.proofs.Gives.{room_for_value, room_for_trigger, word_found, early_gives_none, late_gives_none, value_and_trigger, not_a_trigger, false_trigger}
-use borrow.Author.Rules.{rules}
 use Rattle.output.proofs.give.Goals as goal
 
 pub returns-then-t-ahead : goal.returns-then-t-ahead

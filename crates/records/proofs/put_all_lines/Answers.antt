@@ -2,9 +2,7 @@
 -- Assumes nothing.
 use native.Mathlib.Omega.{arith}
 use native.Mathlib.Nat.{pos_of_ne-zero}
-use Prim.Native.Nat.{◌-◌}
-use lib.ListN.{length}
-use Rattle.records.proofs.Lines.{Lined, lined_none, lined_more, lined_all, size_left}
+use Rattle.records.proofs.Lines.{lined_none, lined_more, lined_all, size_left}
 use Rattle.records.proofs.put_all_lines.Goals as goal
 
 pub loop-at-init : goal.loop-at-init

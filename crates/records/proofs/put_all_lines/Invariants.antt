@@ -1,10 +1,8 @@
 -- The loop's invariant: the lines of the records before i stand written. The measure is the number of bytes left.
 -- Assumes nothing.
-use native.Mathlib.Omega.{arith}
-use native.Mathlib.Nat.{pos_of_ne-zero}
 use Prim.Native.Nat.{◌-◌}
 use lib.ListN.{length}
-use Rattle.records.proofs.Lines.{Lined, lined_none, lined_more, lined_all, size_left}
+use Rattle.records.proofs.Lines.{Lined}
 use Rattle.records.proofs.put_all_lines.Given as goal
 
 abbrev pub invariant-loop-at : goal.invariant-loop-at

@@ -1,6 +1,5 @@
 -- `records::put_trigger` meets its contract: the two bytes and the word of a record 51.
 -- Assumes nothing.
-use borrow.Author.Rules.{rules}
 use Rattle.basis.proofs.Written.{then}
 use Rattle.records.proofs.put_trigger.Goals as goal
 

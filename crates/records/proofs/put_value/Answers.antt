@@ -1,6 +1,5 @@
 -- `records::put_value` meets its contract: the two bytes and the two words of a record 50.
 -- Assumes nothing.
-use borrow.Author.Rules.{rules}
 use native.Mathlib.Omega.{arith}
 use Rattle.basis.proofs.Written.{then}
 use Rattle.wire.proofs.Words.{word_length}

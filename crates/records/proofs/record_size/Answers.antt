@@ -1,5 +1,4 @@
 -- No bytes, a part of a record, or a whole one. Assumes nothing.
-use borrow.Author.Rules.{rules}
 use native.Mathlib.Omega.{arith}
 use lib.ListN.{drop, length-drop}
 use Rattle.records.proofs.Reading.{size_within, part_record_at, whole_record_at}

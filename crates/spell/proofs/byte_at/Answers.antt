@@ -1,7 +1,6 @@
 -- The byte that stands there, and the end mark. Assumes nothing.
 use native.Mathlib.Omega.{arith}
 use mathlib.Core.Path.{◌∙◌}
-use borrow.Author.Rules.{rules}
 use Rattle.spell.proofs.Numbers.{byte_there, byte_past}
 use Rattle.spell.proofs.byte_at.Goals as goal
 

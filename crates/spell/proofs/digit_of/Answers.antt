@@ -1,6 +1,5 @@
 -- Each range of bytes as a law. Assumes nothing.
 use native.Mathlib.Omega.{arith}
-use borrow.Author.Rules.{rules}
 use Rattle.spell.proofs.Hex.{low_digit, high_digit, no_digit}
 use Rattle.spell.proofs.digit_of.Goals as goal
 

@@ -1,9 +1,10 @@
 -- The loop's invariant is what n digits tell (`Hexes`); each return and each turn is one of its laws. Assumes nothing.
-use Prim.Native.Nat.{◌-◌}
 use native.Mathlib.Omega.{arith}
-use borrow.Author.Rules.{rules}
-use Rattle.spell.proofs.Hex.{Hexes, digit_is, none_read, all_read, room, past_end, not_hex, one_read}
+use Rattle.spell.proofs.Hex.{digit_is, none_read, all_read, room, past_end, not_hex, one_read}
 use Rattle.spell.proofs.hex_at.Goals as goal
+
+pub loop-n-init : goal.loop-n-init
+loop-n-init c = none_read (omega arith)
 
 pub returns-then-at-n : goal.returns-then-at-n
 returns-then-at-n c = past_end c.loop-n.invariant c.loop-n-test.true (omega arith)

@@ -1,8 +1,7 @@
 -- The loop's invariant is what the digits so far tell (`Digits`); each return and each turn is one law. Assumes nothing.
 use Prim.Native.Nat.{◌-◌}
-use native.Mathlib.Omega.{arith}
 use lib.ListN.{length}
-use Rattle.spell.proofs.Numbers.{Digits, first_digit, first_past, first_lost, then_digit, then_stop, then_past, then_lost}
+use Rattle.spell.proofs.Numbers.{Digits}
 use Rattle.spell.proofs.number_at.Given as goal
 
 abbrev pub invariant-loop-i : goal.invariant-loop-i

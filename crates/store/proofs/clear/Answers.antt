@@ -2,10 +2,7 @@
 -- Assumes nothing.
 use mathlib.Core.Path.{◌≡◌, refl, ◌∙◌}
 use native.Mathlib.Omega.{arith}
-use borrow.Author.Rules.{rules}
-use mathlib.Core.List.{◌++◌}
-use Prim.Native.Nat.{◌-◌, ◌≤◌}
-use lib.ListN.{length, drop, replicate, length-set}
+use lib.ListN.{length-set}
 use Rattle.store.proofs.Clearing.{cleared_step}
 use Rattle.store.proofs.clear.Goals as goal
 

@@ -1,12 +1,9 @@
 -- `store::clear` meets its contract: the words before i are 0, the others as they were.
 -- Assumes nothing.
-use mathlib.Core.Path.{◌≡◌, refl, ◌∙◌}
-use native.Mathlib.Omega.{arith}
-use borrow.Author.Rules.{rules}
+use mathlib.Core.Path.{◌≡◌}
 use mathlib.Core.List.{◌++◌}
 use Prim.Native.Nat.{◌-◌, ◌≤◌}
-use lib.ListN.{length, drop, replicate, length-set}
-use Rattle.store.proofs.Clearing.{cleared_step}
+use lib.ListN.{length, drop, replicate}
 use Rattle.store.proofs.clear.Given as goal
 
 abbrev pub invariant-loop-word : goal.invariant-loop-word

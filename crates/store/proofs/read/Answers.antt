@@ -1,7 +1,6 @@
 -- `store::read` meets its contract: the word read lies in the store.
 -- Assumes nothing.
 use native.Mathlib.Omega.{arith}
-use borrow.Author.Rules.{rules}
 use Rattle.store.proofs.Places.{place_inside}
 use Rattle.store.proofs.read.Goals as goal
 

@@ -1,7 +1,6 @@
 -- `store::write` meets its contract: the word written lies in the store.
 -- Assumes nothing.
 use native.Mathlib.Omega.{arith}
-use borrow.Author.Rules.{rules}
 use Rattle.store.proofs.Places.{place_inside}
 use Rattle.store.proofs.write.Goals as goal
 

@@ -1,6 +1,5 @@
 -- `table::head_fault` meets its contract.
 -- Assumes nothing.
-use borrow.Author.Rules.{rules}
 use mathlib.Core.Path.{◌≡◌, sym, ap, ◌∙◌}
 use mathlib.Core.List.{List}
 use Prim.Native.Nat.{ℕ, ◌+◌, ◌≤◌, ◌<◌}
@@ -27,7 +26,7 @@ pub bounds-table-1 : goal.bounds-table-1
 bounds-table-1 c = omega (arith, record_room _ 0 1 3 (sym (edition_fault _ c.record_fault-no.ensures) ∙ c.if-no-eq0.true))
 
 pub overflow_add-byte_size : goal.overflow_add-byte_size
-overflow_add-byte_size c = omega (arith, c.shared_slice_known-then-no-eq0-1.given 2, c.shared_slice_known-then-no-eq0-1.given 3)
+overflow_add-byte_size c = omega (arith, c.type_inv.table 2, c.type_inv.table 3)
 
 pub returns-then-inputs-eq0 : goal.returns-then-inputs-eq0
 unfolding head_fault_of

@@ -1,6 +1,5 @@
 -- `table::input_fault` meets its contract.
 -- Assumes nothing.
-use borrow.Author.Rules.{rules}
 use mathlib.Core.Path.{sym, ap, ◌∙◌}
 use native.Mathlib.Omega.{arith}
 use Rattle.table.specs.Records.{record_fault_of, input_fault_of}

@@ -1,6 +1,5 @@
 -- `table::output_fault` meets its contract.
 -- Assumes nothing.
-use borrow.Author.Rules.{rules}
 use mathlib.Core.Path.{sym, ap, ◌∙◌}
 use native.Mathlib.Omega.{arith}
 use Rattle.table.specs.Records.{record_fault_of, output_fault_of}

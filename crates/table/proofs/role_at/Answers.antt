@@ -1,6 +1,5 @@
 -- `table::role_at` meets its contract.
 -- Assumes nothing.
-use borrow.Author.Rules.{rules}
 use borrow.Author.Tests.{eq-eqb, ne_eqb}
 use Rattle.table.specs.Records.{role_at}
 use Rattle.table.proofs.role_at.Goals as goal

@@ -1,6 +1,5 @@
 -- `table::scan_equation` meets its contract.
 -- Assumes nothing.
-use borrow.Author.Rules.{rules}
 use mathlib.Core.Path.{sym, ◌∙◌}
 use native.Mathlib.Omega.{arith}
 use Rattle.table.proofs.Faults.{equation_room}

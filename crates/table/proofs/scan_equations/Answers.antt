@@ -4,29 +4,17 @@ use borrow.Author.Rules.{rules}
 use borrow.Author.Tests.{leb-true, leb-false}
 use mathlib.Core.Path.{◌≡◌, sym, ◌∙◌}
 use mathlib.Core.List.{List}
-use Prim.Native.Nat.{ℕ, ◌-◌, ◌≤◌}
+use Prim.Native.Nat.{ℕ, ◌≤◌}
 use native.Mathlib.Omega.{arith}
-use lib.ListN.{length, take, replicate, length-set}
+use lib.ListN.{length, take, length-set}
 use lib.Seq.{length-take-le}
 use Rattle.limits.specs.Limits.{most_streams}
-use Rattle.expression.specs.Seen.{Seen}
 use Rattle.expression.proofs.Seeing.{fresh_seen}
 use Rattle.table.proofs.Arrays.{ZeroFrom, zeros_at_first, zeros_left, padded_front}
 use Rattle.table.proofs.Equations.{refused_byte, equations_first, equations_end, equations_wrong, equations_more, read_behind}
 use Rattle.table.specs.declared.Solved.{Solved}
-use Rattle.table.specs.Table.{equations_at_of}
-use Rattle.table.specs.Answers.{solved_of, padded}
+use Rattle.table.specs.Answers.{padded}
 use Rattle.table.proofs.scan_equations.Goals as goal
-
--- the equations below that of the stream y are read
-record Reading (s ts starts : List ℕ) (seen : List (List ℕ)) (from streams at y next : ℕ) : Type 0 where
-  since : from ≤ y
-  upto : y ≤ streams
-  array : length starts ≡ most_streams
-  solved : solved_of (take y starts) (equations_at_of (streams - y) y ts s next) ≡ solved_of (replicate from 0) (equations_at_of (streams - from) from ts s at)
-  rest : ZeroFrom y starts
-  place : next ≤ length s
-  rows : Seen ts seen
 
 all_solved : (n next : ℕ) {y : ℕ} (starts : List ℕ) → y ≡ n → length starts ≡ most_streams → n ≤ most_streams → ZeroFrom y starts
     → ◌≡◌ {A = Solved} (record { number = 0; place = next; starts = starts }) (record { number = 0; place = next; starts = padded (take y starts) })

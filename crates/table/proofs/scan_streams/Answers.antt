@@ -1,9 +1,8 @@
 -- `table::scan_streams` meets its contract.
 -- Assumes nothing.
-use borrow.Author.Rules.{rules}
 use mathlib.Core.Path.{◌≡◌, refl, sym, ap, ◌∙◌, subst}
 use mathlib.Core.List.{List}
-use Prim.Native.Nat.{ℕ, ◌-◌, ◌≤◌}
+use Prim.Native.Nat.{ℕ, ◌≤◌}
 use native.Mathlib.Omega.{arith}
 use lib.ListN.{length, take, replicate, length-set, length-replicate}
 use lib.Seq.{length-take-le}
@@ -12,18 +11,10 @@ use Rattle.table.proofs.Arrays.{ZeroFrom, zeros_at_first, zeros_left, padded_fro
 use Rattle.table.proofs.Faults.{stream_room}
 use Rattle.table.proofs.Streams.{streams_first, streams_end, streams_fault, streams_more}
 use Rattle.table.specs.declared.Heading.{Heading}
-use Rattle.table.specs.Records.{Declared, declared, before, declares, wrong}
+use Rattle.table.specs.Records.{Declared, declares, wrong}
 use Rattle.table.specs.Answers.{headed_of, Headings}
 use Rattle.table.proofs.scan_streams.Goals as goal
-
--- the records of the streams below v are read
-record Declaring (s types roles : List ℕ) (inputs streams v next : ℕ) : Type 0 where
-  upto : v ≤ streams
-  types_array : length types ≡ most_streams
-  roles_array : length roles ≡ most_streams
-  declares_on : before (take v types) (take v roles) (declared (streams - v) inputs v s next) ≡ declared streams inputs 0 s 4
-  types_rest : ZeroFrom v types
-  roles_rest : ZeroFrom v roles
+use Rattle.table.proofs.scan_streams.Invariants.{Declaring}
 
 start : (s : List ℕ) {types roles : List ℕ} (inputs streams : ℕ) → types ≡ replicate most_streams 0 → roles ≡ replicate most_streams 0 → Declaring s types roles inputs streams 0 4
 start s inputs streams e f = rw (e, f) (record {

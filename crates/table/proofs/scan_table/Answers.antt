@@ -1,6 +1,5 @@
 -- `table::scan_table` meets its contract.
 -- Assumes nothing.
-use borrow.Author.Rules.{rules}
 use mathlib.Core.Path.{sym, ap, ◌∙◌}
 use native.Mathlib.Omega.{arith}
 use Rattle.table.proofs.Decoding.{opens, opened_few, opened_array, opened_typed, opened_within, decode_unheaded, scan_unfit, scan_more, scan_accepted}

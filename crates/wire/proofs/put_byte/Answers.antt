@@ -1,6 +1,5 @@
 -- `wire::put_byte` meets its contract: one byte at a place.
 -- Assumes nothing.
-use borrow.Author.Rules.{rules}
 use Rattle.basis.proofs.Written.{wrote_byte}
 use Rattle.wire.proofs.put_byte.Goals as goal
 

@@ -1,6 +1,5 @@
 -- `wire::put_word` meets its contract: four bytes, one after the other.
 -- Assumes nothing.
-use borrow.Author.Rules.{rules}
 use Rattle.basis.proofs.Written.{then}
 use Rattle.wire.proofs.Words.{wrote_word}
 use Rattle.wire.proofs.put_word.Goals as goal

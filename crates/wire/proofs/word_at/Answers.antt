@@ -1,6 +1,5 @@
 -- `wire::word_at` meets its contract.
 -- Assumes nothing.
-use borrow.Author.Rules.{rules}
 use Rattle.wire.specs.Bytes.{word_at}
 use Rattle.wire.proofs.word_at.Goals as goal
 

@@ -1,6 +1,5 @@
 -- `length_of`: the last entry of the word's row.
 -- Assumes nothing.
-use borrow.Author.Rules.{rules}
 use Rattle.words.proofs.Lengths.{length_is}
 use Rattle.words.proofs.length_of.Goals as goal
 

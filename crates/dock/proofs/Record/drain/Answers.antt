@@ -1,6 +1,5 @@
 -- `drain`: a byte that is no phase, or the run's own call.
 -- Assumes nothing.
-use borrow.Author.Rules.{rules}
 use Rattle.dock.proofs.Giving.{gives_strange, gives_known}
 use Rattle.dock.proofs.Record.drain.Goals as goal
 

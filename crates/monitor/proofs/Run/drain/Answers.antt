@@ -1,6 +1,5 @@
 -- `drain`: a closing turn, where no test refuses it.
 -- Assumes nothing.
-use borrow.Author.Rules.{rules}
 use Rattle.monitor.proofs.Taking.{one_left}
 use Rattle.monitor.proofs.Leaving.{accepted_as, leaves_by, drain_taken, drain_refused}
 use Rattle.monitor.proofs.Run.drain.Goals as goal

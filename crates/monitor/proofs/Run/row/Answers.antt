@@ -1,7 +1,6 @@
 -- `row`: a row's turn, where no test refuses it.
 -- Assumes nothing.
 use native.Mathlib.Omega.{arith}
-use borrow.Author.Rules.{rules}
 use Rattle.monitor.proofs.Refusals.{row_left}
 use Rattle.monitor.proofs.Leaving.{accepted_as, leaves_by, row_taken, row_refused}
 use Rattle.monitor.proofs.Run.row.Goals as goal

@@ -1,7 +1,6 @@
 -- `row_fault`: the tests in order.
 -- Assumes nothing.
 use mathlib.Core.Path.{sym, ◌∙◌}
-use borrow.Author.Rules.{rules}
 use Rattle.monitor.proofs.Refusals.{row_10, row_11, row_12, row_13, row_14, row_15, row_16, row_0}
 use Rattle.monitor.proofs.Run.row_fault.Goals as goal
 

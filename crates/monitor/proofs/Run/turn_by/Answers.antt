@@ -2,7 +2,6 @@
 -- Assumes nothing.
 use mathlib.Core.Path.{sym, ◌∙◌}
 use native.Mathlib.Omega.{arith}
-use borrow.Author.Rules.{rules}
 use Rattle.prepare.proofs.Held.{some_held, few_held}
 use Rattle.monitor.proofs.Refusals.{turn_prepared}
 use Rattle.monitor.proofs.Taking.{turn_fits, took_refused, took_turned}

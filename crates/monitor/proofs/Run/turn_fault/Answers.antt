@@ -1,6 +1,5 @@
 -- `turn_fault`: a closing turn's tests, or a row's.
 -- Assumes nothing.
-use borrow.Author.Rules.{rules}
 use Rattle.monitor.proofs.Run.turn_fault.Goals as goal
 
 pub returns-then-drains : goal.returns-then-drains
