@@ -2,7 +2,7 @@
 // write stops it, with a message and no further line.
 #![tactic(auto)]
 
-ghost use Rattle.std.specs.Prelude.{◌≡◌, true, List, ℕ, ◌+◌, ◌≤◌, ◌<◌, ◌^◌, length, take};
+ghost use Rattle.std.specs.Prelude.{◌≡◌, true, List, ℕ, ◌+◌, ◌≤◌, ◌<◌, ◌^◌, length, take, IsSome};
 ghost use Rattle.records.specs.Kinds.{most_text};
 ghost use Rattle.feed.specs.Stands.{reading, Lent, Standing};
 ghost use Rattle.glasspuddle.specs.Written.{Took, Written};
@@ -69,7 +69,8 @@ fn put<O: Write>(to: &mut O, clock: &impl Clock, text: &[u8]) -> bool
 
 // Where a read says that the input is at its end: whether it is, or was cut off. A terminal that hung up is none any more.
 fn at_end<I: IsTerminal, O, M: Write, C: Clock>(ends: &mut Ends<I, O, M, C>) -> bool
-    ensures { (ends.new.input ≡ ends.old.input) × (ends.new.output ≡ ends.old.output) }
+    ensures others { (ends.new.input ≡ ends.old.input) × (ends.new.output ≡ ends.old.output) }
+    ensures quiet { result ≡ true → ends.new.messages ≡ ends.old.messages }
 {
     if !ends.was_terminal {
         return true;
@@ -92,6 +93,7 @@ fn read_some<I: Read + IsTerminal, O, M: Write, C: Clock>(
 ) -> Option<usize>
     ensures read { Took result (I.remaining ends.old.input) (I.remaining ends.new.input) input.new }
     ensures output { ends.new.output ≡ ends.old.output }
+    ensures quiet { IsSome result → ends.new.messages ≡ ends.old.messages }
 {
     let mut tries: u64 = u64::MAX;
     while tries > 0 {
@@ -123,6 +125,7 @@ fn write_text<I, O: Write, M: Write, C: Clock>(
     requires { at ≤ length text.now }
     ensures written { Written result (O.contents ends.old.output) (O.contents ends.new.output) (take at text.now) }
     ensures input { ends.new.input ≡ ends.old.input }
+    ensures quiet { result ≡ true → ends.new.messages ≡ ends.old.messages }
 {
     if put(&mut ends.output, &ends.clock, &text[..at]) {
         return true;
@@ -151,6 +154,7 @@ fn take_piece<I, O: Write, M: Write, C: Clock>(
     ensures taken { Taken result.fine state table.old store.old part.old piece.now result.state table.new store.new part.new
         (O.contents ends.old.output) (O.contents ends.new.output) }
     ensures input { ends.new.input ≡ ends.old.input }
+    ensures quiet { result.fine ≡ true → ends.new.messages ≡ ends.old.messages }
 {
     let mut latest = state;
     let mut used: usize = 0;
@@ -186,6 +190,7 @@ fn take_input<I: Read + IsTerminal, O: Write, M: Write, C: Clock>(
     ensures standing { Standing result.state table.new store.new part.new }
     ensures heard { Heard result.fine result.state table.new store.new part.new (I.remaining ends.old.input) (I.remaining ends.new.input)
         (O.contents ends.old.output) (O.contents ends.new.output) }
+    ensures quiet { result.fine ≡ true → ends.new.messages ≡ ends.old.messages }
 {
     let mut latest = feed::begin();
     while feed::reads_on(latest) && latest.read <= usize::MAX - PIECE_MOST {
@@ -226,7 +231,8 @@ fn give_rest<I, O: Write, M: Write, C: Clock>(
     text: &mut [u8],
 ) -> bool
     requires { ((part : List ℕ) × Standing state table.now store.old part) × (most_text ≤ length text.old) }
-    ensures { Rested result state table.now store.old (O.contents ends.old.output) (O.contents ends.new.output) }
+    ensures rested { Rested result state table.now store.old (O.contents ends.old.output) (O.contents ends.new.output) }
+    ensures quiet { result ≡ true → ends.new.messages ≡ ends.old.messages }
 {
     let ended = feed::end(state, table, text);
     let first = ended.ending;
@@ -251,7 +257,8 @@ fn run<I: Read + IsTerminal, O: Write, M: Write, C: Clock>(
     text: &mut [u8],
 ) -> bool
     requires { Lent table.old store.old part.old × (length input.old ≡ 65536) × (most_text ≤ length text.old) }
-    ensures { Answered result (I.remaining ends.old.input) (O.contents ends.old.output) (O.contents ends.new.output) }
+    ensures answered { Answered result (I.remaining ends.old.input) (O.contents ends.old.output) (O.contents ends.new.output) }
+    ensures quiet { result ≡ true → ends.new.messages ≡ ends.old.messages }
 {
     let went = take_input(ends, table, store, part, input, text);
     if !went.fine {
