@@ -1,4 +1,4 @@
-//! The library through its C boundary: the archive that `rt staticlib dock` makes. A slice is two
+//! The library through its C boundary: the archive that `sh tools/build` makes. A slice is two
 //! arguments, pointer and number of elements.
 
 use baseline::{Calls, Record, Refusal, MOST_STREAMS};

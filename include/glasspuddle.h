@@ -1,5 +1,5 @@
 // The monitor's five calls for C and C++ (document 01, "A run"). The functions are proved; their
-// archive is target/staticlib/libdock.a, made by `rt staticlib dock`, for x86-64. Words in
+// archive is target/staticlib/libdock.a, made by `sh tools/build`, for x86-64. Words in
 // quotation marks are document 01's.
 //
 // WHAT EVERY CALL PROMISES, for any values of its arguments

@@ -8,7 +8,6 @@ use native.Mathlib.Nat.{not-suc-le-zero}
 use borrow.Author.Rules.{rules}
 use borrow.Author.Count.{below_more}
 use Rattle.certificate.proofs.numbers_agree.Goals as goal
-use Rattle.certificate.proofs.numbers_agree.Goals.{then-look-v-ne0+else-tight-v-eq0, else-look-v-ne0}
 
 other : {r a q b : ℕ} → r ≡ a → q ≡ b → (r ≡ q + 1 → ⊥) → a ≡ b + 1 → ⊥
 other e f h g = h (omega arith)
@@ -23,17 +22,14 @@ pub returns-then-short_wide-word_wide : goal.returns-then-short_wide-word_wide
 returns-then-short_wide-word_wide c = record { v = c.loop-v.v; inside = search rules; why = inl (λ e. other c.short_wide.ensures.0 c.word_wide.ensures.0 c.if-short_wide-word_wide.true e) }
 
 pub returns-then-tight-v-eq0 : goal.returns-then-tight-v-eq0
-returns-then-tight-v-eq0 c = record { v = c.loop-v.v; inside = search rules; why = inr (c.if-look-v-ne0.true, c.if-tight-v-eq0.true) }
+returns-then-tight-v-eq0 c = record { v = c.loop-v.v; inside = search rules; why = inr (search rules, search rules) }
 
 pub loop-v-preserved : goal.loop-v-preserved
 loop-v-preserved c = (
   search rules,
   below_more _ _ c.loop-v.invariant.1 (
     same c.short_wide.ensures.0 c.word_wide.ensures.0 c.if-short_wide-word_wide.false,
-    elim c.if-look-v-ne0.branch [
-      | then-look-v-ne0+else-tight-v-eq0 w ↦ inr w.if-tight-v-eq0.false
-      | else-look-v-ne0 w ↦ inl w.if-look-v-ne0.false
-    ],
+    grind arith,
   ),
 )
 
