@@ -3,15 +3,13 @@
 // A line that starts with `#` is a comment, and the line `-` is the empty table; one that says nothing is reported as malformed.
 #![tactic(auto)]
 
-ghost use Rattle.std.specs.Prelude.{true, ◌≡◌, ◌+◌, ◌*◌, ◌≤◌, ◌<◌, length, get_or, take, IfOk};
-ghost use Rattle.std.specs.Io.KnownBytes.{Consumes, IsAtEnd};
+ghost use Rattle.std.specs.Prelude.{true, ◌≡◌, ◌+◌, ◌*◌, ◌≤◌, ◌<◌, length, get_or, take};
 ghost use Rattle.test_tables.specs.Hex.{LineEnd, Within, said, said_of, digits_say, whole_of, bytes_said, pair_of, digit_for};
 ghost use Rattle.limits.specs.Limits.{most_streams};
 
 use announce::Checked;
 use limits::STREAMS_MOST;
 use std::io;
-use std::io::Read;
 
 // What a line says; a table has so many bytes.
 #[derive(Clone, Copy)]
@@ -24,7 +22,7 @@ enum Line {
 // Reads at most 262,143 bytes: no answer is given to an input that may go on.
 fn main(rt: HostRuntime) -> io::Result<()> {
     let mut text = space();
-    let n = read_full(&mut rt.stdin(), &mut text)?;
+    let n = filled::read_full(&mut rt.stdin(), &mut text)?;
     if n == 262144 {
         return println!(rt; "input too long");
     }
@@ -36,23 +34,6 @@ fn space() -> [u8; 262144]
     ensures { 262144 ≡ length result }
 {
     [0; 262144]
-}
-
-// Reads until the bytes lent are full or the input ends, and answers how many bytes it read.
-fn read_full<I: Read>(input: &mut I, text: &mut [u8]) -> io::Result<usize>
-    ensures fits { IfOk result (λ n. n ≤ length text.new) }
-    ensures read { IfOk result (λ n. Consumes (I.remaining input.old) (I.remaining input.new) (take n text.new)) }
-    ensures whole { IfOk result (λ n. n < length text.new → IsAtEnd (I.remaining input.new)) }
-{
-    let mut done: usize = 0;
-    while done < text.len() {
-        let n = input.read(&mut text[done..])?;
-        if n == 0 {
-            return Ok(done);
-        }
-        done += n;
-    }
-    Ok(done)
 }
 
 // Each line ends with a line feed or with the text.

@@ -2,12 +2,10 @@
 // 2B to 2F), and says of each file how many lines agreed, and which did not.
 #![tactic(auto)]
 
-ghost use Rattle.std.specs.Prelude.{◌≡◌, ◌+◌, ◌*◌, ◌/◌, ◌^◌, ◌≤◌, ◌<◌, length, take, IfOk};
-ghost use Rattle.std.specs.Io.KnownBytes.{Consumes, IsAtEnd};
+ghost use Rattle.std.specs.Prelude.{◌≡◌, ◌+◌, ◌*◌, ◌/◌, ◌^◌, ◌≤◌, ◌<◌, length};
 ghost use Rattle.level.specs.Level.{one_nan_of};
 ghost use Rattle.test_vectors.specs.Vectors.{outcome_of, agrees_of, agreed_of, line_of, vector_of, parted_of, result_of, word_at, half_of, digit_for};
 
-use std::io::Read;
 use std::rt::Files;
 use std::{fs, io};
 
@@ -38,7 +36,7 @@ fn run(rt: &(impl Files + Print), path: &str, name: &str, kind: u8, size: usize)
     let mut text = space();
     match fs::open(rt, path) {
         Ok(mut file) => {
-            let n = read_full(&mut file, &mut text)?;
+            let n = filled::read_full(&mut file, &mut text)?;
             report(rt, name, kind, size, &text[..n])
         }
         Err(_) => println!(rt; "{name} has no file"),
@@ -50,23 +48,6 @@ fn space() -> [u8; 163840]
     ensures { 163840 ≡ length result }
 {
     [0; 163840]
-}
-
-// Reads until the bytes lent are full or the input ends, and answers how many bytes it read.
-fn read_full<I: Read>(input: &mut I, text: &mut [u8]) -> io::Result<usize>
-    ensures fits { IfOk result (λ n. n ≤ length text.new) }
-    ensures read { IfOk result (λ n. Consumes (I.remaining input.old) (I.remaining input.new) (take n text.new)) }
-    ensures whole { IfOk result (λ n. n < length text.new → IsAtEnd (I.remaining input.new)) }
-{
-    let mut done: usize = 0;
-    while done < text.len() {
-        let n = input.read(&mut text[done..])?;
-        if n == 0 {
-            return Ok(done);
-        }
-        done += n;
-    }
-    Ok(done)
 }
 
 fn report(rt: &impl Print, name: &str, kind: u8, size: usize, text: &[u8]) -> io::Result<()>

@@ -1,7 +1,7 @@
 -- What was read stands in front. The measure is the room left.
 use Rattle.std.proofs.Common.{◌-◌, ◌≤◌, length, take}
 use Rattle.std.specs.Io.KnownBytes.{Consumes}
-use Rattle.test_vectors.proofs.read_full.Given as goal
+use Rattle.filled.proofs.read_full.Given as goal
 
 abbrev pub invariant-loop-done : goal.invariant-loop-done
 invariant-loop-done g l =
