@@ -12,8 +12,8 @@ ghost use Rattle.announce.specs.Conditions.{Answers};
 ghost use Rattle.announce.specs.Rows.{RowPut, Weighs, Scanned, Fitting, numbers_for};
 
 use expression::SEEN_ENTRIES;
-use limits::{PAIRS_MOST, STREAMS_MOST};
-use table::{Outcome, Scan};
+use limits::{Fault, PAIRS_MOST, Refusal, STREAMS_MOST};
+use table::Scan;
 
 // What the check announces. Numbers are by stream, 0 past the last one; a refusal has its number and place, and zeros.
 #[repr(C)]
@@ -126,7 +126,7 @@ fn row_of(all: &[u16; PAIRS_MOST], y: usize) -> [u16; STREAMS_MOST]
 
 // The announced numbers of a table whose loops are all below 0, or refusal 8.
 #[inline(never)]
-fn numbers_of(scan: Scan, look: [u16; STREAMS_MOST], fall: &[u16; PAIRS_MOST]) -> Checked
+fn numbers_of(scan: Scan, look: [u16; STREAMS_MOST], fall: &[u16; PAIRS_MOST]) -> Result<Announced, Refusal>
     requires { Fitting scan look fall.now }
     ensures { result ≡ numbers_for scan look fall.now }
 {
@@ -135,22 +135,20 @@ fn numbers_of(scan: Scan, look: [u16; STREAMS_MOST], fall: &[u16; PAIRS_MOST]) -
     let kept = kept::kept_of(&look, fall, streams);
     let totals = numbers::sums(&look, &kept, &roles, streams);
     if limits::STORE_MOST < totals.words {
-        return refusal_of(limits::STORE_WORDS, 0);
+        return Err(Fault::OverWords.at(0));
     }
     let room = records::room_of(streams - scan.inputs, totals.triggers);
-    Checked {
-        number: limits::ACCEPTED,
-        place: 0,
+    Ok(Announced {
         look: look,
         kept: kept,
         words: totals.words,
         room: room,
         closing: totals.closing,
-    }
+    })
 }
 
 // Refusals 7 and 8, and the announced numbers, of a table that the scan accepted.
-fn weigh_scan(table: &[u8], scan: Scan) -> Checked
+fn weigh_scan(table: &[u8], scan: Scan) -> Result<Announced, Refusal>
     requires { Scanned table.now scan }
     ensures { result ≡ announced table.now }
 {
@@ -162,19 +160,44 @@ fn weigh_scan(table: &[u8], scan: Scan) -> Checked
         let look = verdict.look;
         numbers_of(scan, look, &fall)
     } else {
-        refusal_of(limits::LOOP, verdict.place)
+        Err(Fault::WrongLoop.at(verdict.place))
     }
 }
 
-// The check of a table: number and place, and, where it is accepted, look-ahead and kept number of each stream, store words, room and
-// closing turns. It is what document 01 allows it to answer.
+// What an accepted table announces. Numbers are by stream, 0 past the last one.
+#[derive(Clone, Copy)]
+pub struct Announced {
+    pub look: [u16; STREAMS_MOST],
+    pub kept: [u16; STREAMS_MOST],
+    pub words: usize,
+    pub room: usize,
+    pub closing: u16,
+}
+
+// The check of a table.
+pub fn check_table(table: &[u8]) -> Result<Announced, Refusal>
+{
+    let scan = table::scan_table(table)?;
+    weigh_scan(table, scan)
+}
+
 pub fn check(table: &[u8]) -> Checked
     ensures { (result ≡ announced table.now) × Answers table.now result }
 {
-    let scan = table::scan_table(table);
-    let outcome = scan.outcome;
-    match outcome {
-        Outcome::Refused(number, place) => refusal_of(number, place),
-        Outcome::Accepted => weigh_scan(table, scan),
+    match check_table(table) {
+        Err(refusal) => refusal_of(refusal.fault as u8, refusal.place),
+        Ok(announced) => {
+            let look = announced.look;
+            let kept = announced.kept;
+            Checked {
+            number: limits::ACCEPTED,
+            place: 0,
+            look,
+            kept,
+            words: announced.words,
+            room: announced.room,
+            closing: announced.closing,
+        }
+        }
     }
 }

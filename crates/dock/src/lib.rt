@@ -9,7 +9,7 @@ ghost use Rattle.announce.specs.Conditions.{Answers};
 ghost use Rattle.dock.specs.Lent.{phase_for, number_of, run_of, reply_for, strange_reply, lent_open, lent_row, lent_close, lent_drain, Gives, Lends};
 
 use announce::Checked;
-use limits::STREAMS_MOST;
+use limits::{Refusal, STREAMS_MOST};
 use monitor::{Answer, Phase, Run};
 
 // The phases' bytes. No byte above the last one is a phase.
@@ -46,121 +46,81 @@ pub struct Reply {
     pub told: Told,
 }
 
-// The phase of a byte. One above the last has been refused before (`Record::strange`).
-fn phase_of(phase: u8) -> Phase
-    ensures { result ≡ phase_for phase }
-{
-    if phase == READING {
-        Phase::Reading
-    } else if phase == DRAINING {
-        Phase::Draining
-    } else {
-        Phase::Over
-    }
-}
-
-fn number_of(phase: Phase) -> u8
-    ensures { result ≡ number_of phase }
-{
-    match phase {
-        Phase::Reading => READING,
-        Phase::Draining => DRAINING,
-        Phase::Over => OVER,
-    }
-}
-
 // The answer of a run's call, its record as C lays it out.
-fn reply_of(answer: Answer) -> Reply
-    ensures { result ≡ reply_for answer }
-{
-    let run = answer.run;
-    let look = run.look;
-    let kept = run.kept;
-    let phase = run.phase;
-    let byte = number_of(phase);
-    let held = Record {
-        look: look,
-        kept: kept,
-        rows: run.rows,
-        done: run.done,
-        phase: byte,
-    };
-    let told = Told {
-        number: answer.number,
-        place: answer.place,
-        count: answer.count,
-    };
-    Reply {
-        held: held,
-        told: told,
+impl From<Answer> for Reply {
+    fn from(answer: Answer) -> Reply {
+        let run = answer.run;
+        let look = run.look;
+        let kept = run.kept;
+        let held = Record {
+            look,
+            kept,
+            rows: run.rows,
+            done: run.done,
+            phase: run.phase as u8,
+        };
+        Reply { held, told: Told::from(answer.outcome) }
+    }
+}
+
+impl From<Result<usize, Refusal>> for Told {
+    fn from(outcome: Result<usize, Refusal>) -> Told {
+        match outcome {
+            Ok(count) => Told { number: limits::ACCEPTED, place: 0, count },
+            Err(refusal) => Told { number: u8::from(refusal.fault), place: refusal.place, count: 0 },
+        }
     }
 }
 
 // The calls by value over this record: the run's own, where the byte is a phase.
 impl Record {
-    fn run_of(self) -> Run
-        ensures { result ≡ run_of self }
+    fn run(self) -> Option<Run>
     {
+        let Ok(phase) = Phase::try_from(self.phase) else { return None; };
         let look = self.look;
         let kept = self.kept;
-        let phase = phase_of(self.phase);
-        Run {
-            look: look,
-            kept: kept,
+        Some(Run {
+            look,
+            kept,
             rows: self.rows,
-            phase: phase,
+            phase,
             done: self.done,
-        }
+        })
     }
 
     // A byte that is no phase is "not a record of this table". "Every call tests the table first."
     fn strange(self, table: &[u8]) -> Reply
         ensures { result ≡ strange_reply table.now self }
     {
-        let fault = monitor::foreign(table);
-        let told = Told {
-            number: fault.number,
-            place: fault.place,
-            count: 0,
-        };
-        Reply {
-            held: self,
-            told: told,
-        }
+        Reply { held: self, told: Told::from(Err(monitor::foreign(table))) }
     }
 
     fn row(self, table: &[u8], store: &mut [u32], row: &[u32], out: &mut [u8]) -> Reply
         ensures { Gives (lent_row table.now self row.now store.old out.old) result store.new
             out.new }
     {
-        if OVER < self.phase {
-            return self.strange(table);
+        match self.run() {
+            Some(run) => Reply::from(run.row(table, store, row, out)),
+            None => self.strange(table),
         }
-        let run = self.run_of();
-        let answer = run.row(table, store, row, out);
-        reply_of(answer)
     }
 
     fn close(self, table: &[u8]) -> Reply
         ensures { Gives (lent_close table.now self) result [] [] }
     {
-        if OVER < self.phase {
-            return self.strange(table);
+        match self.run() {
+            Some(run) => Reply::from(run.close(table)),
+            None => self.strange(table),
         }
-        let run = self.run_of();
-        let answer = run.close(table);
-        reply_of(answer)
     }
 
     fn drain(self, table: &[u8], store: &mut [u32], out: &mut [u8]) -> Reply
         ensures { Gives (lent_drain table.now self store.old out.old) result store.new out.new }
     {
-        if OVER < self.phase {
-            return self.strange(table);
+        match self.run() {
+            Some(run) => Reply::from(run.drain(table, store, out)),
+            None => self.strange(table),
         }
-        let run = self.run_of();
-        let answer = run.drain(table, store, out);
-        reply_of(answer)
     }
 }
 
@@ -168,8 +128,7 @@ impl Record {
 fn opened(table: &[u8], store: &mut [u32]) -> Reply
     ensures { Gives (lent_open table.now store.old) result store.new [] }
 {
-    let answer = monitor::open(table, store);
-    reply_of(answer)
+    Reply::from(monitor::open(table, store))
 }
 
 // What the check announces of a table.

@@ -11,7 +11,7 @@ ghost use Rattle.expression.specs.Grammar.{parse};
 ghost use Rattle.expression.specs.Seen.{Seen, unseen, fresh};
 ghost use Rattle.expression.specs.Scanning.{places, other_fault_of, answered, Raised, Noting, CanNote, LeafScanned, CanScan, Scanning};
 
-use limits::STREAMS_MOST;
+use limits::{Fault, Refusal, STREAMS_MOST};
 use node::{ENTRIES, KINDS_MOST, Node};
 
 // What a scan keeps of each stream, a row of an array by stream: its type, and the notes of the largest and of the smallest weight of the
@@ -84,61 +84,59 @@ fn note(seen: &mut [[u16; SEEN_ENTRIES]; STREAMS_MOST], v: usize, rise: u16, fal
     raise(seen, v, SEEN_FALL, fall);
 }
 
-// A scan's answer is one number: the place behind what was scanned; or, so many places further for each number, the place of a fault.
-const PLACES: usize = 65536;
-
-pub fn refused(number: u8, place: usize) -> usize
-    requires { place < places }
-    ensures { result ≡ number * places + place }
-{
-    wire::byte_size(number) * PLACES + place
-}
-
-// Whether an answer is a fault, its number and its place.
-pub fn refuses(answer: usize) -> bool
-    ensures { result ≡ leb places answer }
-{
-    PLACES <= answer
-}
-
-pub fn number_of(answer: usize) -> u8
-    requires { answer < 256 * places }
-    ensures { result ≡ answer / places }
-{
-    (answer / PLACES) as u8
-}
-
-pub fn place_of(answer: usize) -> usize
-    ensures { result ≡ answer % places }
-{
-    answer % PLACES
-}
-
 // The fault of a reference to a stream that is not of the wanted type: there is no such stream, or it is of the type t.
-fn other_fault(t: u16) -> u8
-    ensures { result ≡ other_fault_of t }
+fn other_fault(t: u16) -> Fault
+    ensures { number_for result ≡ other_fault_of t }
 {
     if t == NO_TYPE {
-        limits::FIELD
+        Fault::WrongField
     } else {
-        limits::TYPE
+        Fault::WrongType
+    }
+}
+
+const PLACES: usize = 65536;
+
+#[derive(Clone, Copy)]
+pub struct Scanned {
+    pub code: usize,
+}
+
+pub fn refused(fault: Fault, place: usize) -> Scanned {
+    Scanned { code: (fault as usize) * PLACES + place }
+}
+
+impl Scanned {
+    pub fn refuses(self) -> bool { PLACES <= self.code }
+    pub fn place(self) -> usize { self.code % PLACES }
+    pub fn outcome(self) -> Result<usize, Refusal> {
+        if self.refuses() {
+            let fault = match self.code / PLACES {
+                2 => Fault::Missing,
+                3 => Fault::WrongKind,
+                4 => Fault::WrongField,
+                5 => Fault::WrongType,
+                _ => Fault::TooDeep,
+            };
+            Err(Refusal { fault, place: self.code % PLACES })
+        } else { Ok(self.code) }
     }
 }
 
 // The nodes without operands, each at `at` and with its body ending at `next`: `next`, or the first fault.
-fn scan_constant(t: u8, word: u32, wanted: u8, at: usize, next: usize) -> usize
+fn scan_constant(t: u8, word: u32, wanted: u8, at: usize, next: usize) -> Scanned
     requires { at < places }
     ensures { (ts : List ℕ) → result ≡ answered ts wanted (Constant t word) at next }
 {
     if t == node::FLAG {
         if 1 < word {
-            return refused(limits::FIELD, at);
+            return refused(Fault::WrongField, at);
         }
     }
     if t != wanted {
-        return refused(limits::TYPE, at);
+        return refused(Fault::WrongType, at);
     }
-    next
+    Scanned { code: next }
 }
 
 fn scan_now(
@@ -147,20 +145,20 @@ fn scan_now(
     wanted: u8,
     at: usize,
     next: usize,
-) -> usize
+) -> Scanned
     requires { CanNote wanted at }
     ensures { LeafScanned (Now v) wanted at next seen.old seen.new result }
 {
     let i = wire::byte_size(v);
     if STREAMS_MOST <= i {
-        return refused(limits::FIELD, at);
+        return refused(Fault::WrongField, at);
     }
     let t = seen[i][SEEN_TYPE];
     if t != wanted as u16 {
         return refused(other_fault(t), at);
     }
     note(seen, i, limits::RISE_OF_ZERO, limits::FALL_OF_ZERO);
-    next
+    Scanned { code: next }
 }
 
 fn scan_at(
@@ -171,28 +169,28 @@ fn scan_at(
     wanted: u8,
     at: usize,
     next: usize,
-) -> usize
+) -> Scanned
     requires { CanNote wanted at }
     ensures { LeafScanned (At v k word) wanted at next seen.old seen.new result }
 {
     let i = wire::byte_size(v);
     if STREAMS_MOST <= i {
-        return refused(limits::FIELD, at);
+        return refused(Fault::WrongField, at);
     }
     if k == 0 {
-        return refused(limits::FIELD, at);
+        return refused(Fault::WrongField, at);
     }
     let t = seen[i][SEEN_TYPE];
     if t == node::FLAG as u16 {
         if 1 < word {
-            return refused(limits::FIELD, at);
+            return refused(Fault::WrongField, at);
         }
     }
     if t != wanted as u16 {
         return refused(other_fault(t), at);
     }
     note(seen, i, rising_of(k), falling_of(k));
-    next
+    Scanned { code: next }
 }
 
 // The node without operands that stands at `at`.
@@ -202,7 +200,7 @@ pub fn scan_leaf(
     seen: &mut [[u16; SEEN_ENTRIES]; STREAMS_MOST],
     wanted: u8,
     at: usize,
-) -> usize
+) -> Scanned
     requires { CanScan kinds.now seen.old table.now wanted at × (is_leaf_of (standing table.now at) ≡ true) }
     ensures { (ts : List ℕ) (l : ℕ) → Seen ts seen.old → Scanning (parse (l + 1) ts table.now wanted at)
         table.now ts seen.old seen.new result }
@@ -211,7 +209,7 @@ pub fn scan_leaf(
     let start = at + 1;
     let body = node::body_of(kinds, wire::byte_size(kind));
     if table.len() - start < body {
-        return refused(limits::MISSING, at);
+        return refused(Fault::Missing, at);
     }
     let node = node::node_of(table, kind, start);
     let next = start + wire::byte_size(node::leaf_body(node));
@@ -219,7 +217,7 @@ pub fn scan_leaf(
         Node::Constant(t, word) => scan_constant(t, word, wanted, at, next),
         Node::Now(v) => scan_now(seen, v, wanted, at, next),
         Node::At(v, k, word) => scan_at(seen, v, k, word, wanted, at, next),
-        Node::Operator(_) => refused(limits::KIND, at),
+        Node::Operator(_) => refused(Fault::WrongKind, at),
     }
 }
 
@@ -232,17 +230,17 @@ pub fn scan_operator(
     wanted: u8,
     at: usize,
     levels: u8,
-) -> usize
+) -> Scanned
     requires { CanScan kinds.now seen.old table.now wanted at × ((is_leaf_of (standing table.now at) ≡ false) × (1 ≤ levels)) }
     ensures { (ts : List ℕ) → Seen ts seen.old → Scanning (parse levels ts table.now wanted at)
         table.now ts seen.old seen.new result }
 {
     if table.len() <= at {
-        return refused(limits::MISSING, at);
+        return refused(Fault::Missing, at);
     }
     let op = wire::byte_size(table[at]);
     if KINDS_MOST <= op {
-        return refused(limits::KIND, at);
+        return refused(Fault::WrongKind, at);
     }
     let results = node::results_of(kinds, op);
     if (results >> wanted) % 2 == 0 {
@@ -259,18 +257,20 @@ pub fn scan_operator(
     } else {
         scan_operator(table, kinds, seen, first, next, levels - 1)
     };
-    if operands == 1 || refuses(second) {
+    if operands == 1 || second.refuses() {
         return second;
     }
+    let second = second.code;
     let rest = node::rest_type(operands, first, wanted);
     let third = if node::leaf_stands(table, second) {
         scan_leaf(table, kinds, seen, rest, second)
     } else {
         scan_operator(table, kinds, seen, rest, second, levels - 1)
     };
-    if operands == 2 || refuses(third) {
+    if operands == 2 || third.refuses() {
         return third;
     }
+    let third = third.code;
     if node::leaf_stands(table, third) {
         scan_leaf(table, kinds, seen, rest, third)
     } else {
@@ -285,7 +285,7 @@ pub fn scan_expr(
     seen: &mut [[u16; SEEN_ENTRIES]; STREAMS_MOST],
     wanted: u8,
     at: usize,
-) -> usize
+) -> Scanned
     requires { CanScan kinds.now seen.old table.now wanted at }
     ensures { (ts : List ℕ) → Seen ts seen.old → Scanning (parse most_levels ts table.now wanted at)
         table.now ts seen.old seen.new result }

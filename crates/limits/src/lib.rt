@@ -2,6 +2,8 @@
 // include/glasspuddle.h says it for C and Rust, and tests/numbers.sh compares the three. It assumes nothing.
 #![tactic(auto)]
 
+ghost use Rattle.limits.specs.Faults.{Numbers};
+
 // "table 1 to 4,096 bytes"
 pub const TABLE_LEAST: usize = 1;
 
@@ -35,37 +37,64 @@ pub const STORE_MOST: usize = 4096;
 // "at most 4,294,967,295 rows in a run"
 pub const ROWS_MOST: u32 = 4294967295;
 
-// "An accepted call answers number 0 and place 0." A function that looks for one fault answers its number, or plain 0 where there is none.
+// "An accepted call answers number 0 and place 0."
 pub const ACCEPTED: u8 = 0;
-// "table length out of its limits"
-pub const TABLE_LENGTH: u8 = 1;
-// "kind byte or body missing"
-pub const MISSING: u8 = 2;
-// "kind not allowed here"
-pub const KIND: u8 = 3;
-// "a field out of its rule"
-pub const FIELD: u8 = 4;
-// "node not of the wanted type"
-pub const TYPE: u8 = 5;
-// "node at level 17"
-pub const LEVEL: u8 = 6;
-// "a loop totals 0 or more"
-pub const LOOP: u8 = 7;
-// "store words over 4,096"
-pub const STORE_WORDS: u8 = 8;
-// "bytes after the last expression"
-pub const BYTES_AFTER: u8 = 9;
-// "not a record of this table"
-pub const RECORD: u8 = 10;
-// "lent store shorter than announced"
-pub const SHORT_STORE: u8 = 11;
-// "call not of this phase"
-pub const PHASE: u8 = 12;
-// "row limit reached"
-pub const ROW_LIMIT: u8 = 13;
-// "row hasn't I words"
-pub const ROW_LENGTH: u8 = 14;
-// "input flag word above 1"
-pub const FLAG: u8 = 15;
-// "lent output shorter than the room"
-pub const SHORT_OUTPUT: u8 = 16;
+
+// Why a table or a call is refused, by document 01's numbers.
+#[derive(Clone, Copy, Debug, PartialEq, Eq)]
+pub enum Fault {
+    // "table length out of its limits"
+    TableLength = 1,
+    // "kind byte or body missing"
+    Missing = 2,
+    // "kind not allowed here"
+    WrongKind = 3,
+    // "a field out of its rule"
+    WrongField = 4,
+    // "node not of the wanted type"
+    WrongType = 5,
+    // "node at level 17"
+    TooDeep = 6,
+    // "a loop totals 0 or more"
+    WrongLoop = 7,
+    // "store words over 4,096"
+    OverWords = 8,
+    // "bytes after the last expression"
+    BytesAfter = 9,
+    // "not a record of this table"
+    ForeignRecord = 10,
+    // "lent store shorter than announced"
+    ShortStore = 11,
+    // "call not of this phase"
+    WrongPhase = 12,
+    // "row limit reached"
+    RowLimit = 13,
+    // "row hasn't I words"
+    RowLength = 14,
+    // "input flag word above 1"
+    WrongFlag = 15,
+    // "lent output shorter than the room"
+    ShortOutput = 16,
+}
+
+// The number of a fault.
+impl From<Fault> for u8 {
+    ghost from_gives = { Numbers };
+
+    fn from(fault: Fault) -> u8 {
+        fault as u8
+    }
+}
+
+// "A refusal has one number and one place."
+#[derive(Clone, Copy, Debug, PartialEq, Eq)]
+pub struct Refusal {
+    pub fault: Fault,
+    pub place: usize,
+}
+
+impl Fault {
+    pub fn at(self, place: usize) -> Refusal {
+        Refusal { fault: self, place }
+    }
+}

@@ -6,6 +6,8 @@ ghost use Rattle.node.specs.Kinds.{rule_of, rest_of, many_kinds, results_for, Ta
 ghost use Rattle.wire.specs.Bytes.{word_at};
 ghost use Rattle.node.specs.Node.{signed_of, node_of, is_leaf_of, leaf_body_of, standing, result_fault_of, deep_fault_of};
 
+use limits::Fault;
+
 // A type: "0 flag, 1 word, 2 level".
 pub const FLAG: u8 = 0;
 
@@ -184,35 +186,35 @@ pub fn rest_type(operands: u8, first: u8, wanted: u8) -> u8
 }
 
 // The fault of a kind that gives nothing of the wanted type: no expression has it, or it is of another type.
-pub fn result_fault(results: u8) -> u8
+pub fn result_fault(results: u8) -> Fault
     ensures { result ≡ result_fault_of results }
 {
     if results == NOTHING {
-        limits::KIND
+        Fault::WrongKind
     } else {
-        limits::TYPE
+        Fault::WrongType
     }
 }
 
 // The fault of whatever stands at `at`, one level too deep.
-pub fn deep_fault(table: &[u8], kinds: &[[u8; ENTRIES]; KINDS_MOST], at: usize) -> u8
+pub fn deep_fault(table: &[u8], kinds: &[[u8; ENTRIES]; KINDS_MOST], at: usize) -> Fault
     requires { Tabulated kinds.now }
     ensures { result ≡ deep_fault_of table.now at }
 {
     if table.len() <= at {
-        return limits::MISSING;
+        return Fault::Missing;
     }
     let kind = wire::byte_size(table[at]);
     if KINDS_MOST <= kind {
-        return limits::KIND;
+        return Fault::WrongKind;
     }
     if results_of(kinds, kind) == NOTHING {
-        return limits::KIND;
+        return Fault::WrongKind;
     }
     if table.len() - at <= body_of(kinds, kind) {
-        return limits::MISSING;
+        return Fault::Missing;
     }
-    limits::LEVEL
+    Fault::TooDeep
 }
 
 // A byte read as a signed number.

@@ -8,10 +8,9 @@ ghost use Rattle.prepare.specs.Preparing.{brief_by, CanPrepare, Preparing};
 use limits::STREAMS_MOST;
 use node::{ENTRIES, KINDS_MOST};
 
-// The number of inputs and streams, and the announced sums; `ok` where the record's numbers are those of an accepted table.
+// The number of inputs and streams, and the announced sums.
 #[derive(Clone, Copy)]
 pub struct Prepared {
-    pub ok: bool,
     pub inputs: usize,
     pub streams: usize,
     pub words: usize,
@@ -19,20 +18,7 @@ pub struct Prepared {
     pub closing: u16,
 }
 
-fn unprepared() -> Prepared
-    ensures { result.ok ≡ false }
-{
-    Prepared {
-        ok: false,
-        inputs: 0,
-        streams: 0,
-        words: 0,
-        room: 0,
-        closing: 0,
-    }
-}
-
-// What a call goes by whose record has these look-aheads and kept numbers; not ok where they are not those of an accepted table of
+// What a call goes by whose record has these look-aheads and kept numbers; nothing where they are not those of an accepted table of
 // these bytes. The lent arrays, all zeros before, get the streams' types and roles, where each expression starts in the table, and the order
 // within a turn. They are lent, not handed back: a copy of what was just written entry by entry would stall each call.
 pub fn prepare(
@@ -44,27 +30,20 @@ pub fn prepare(
     roles: &mut [u8; STREAMS_MOST],
     starts: &mut [u16; STREAMS_MOST],
     order: &mut [u8; STREAMS_MOST],
-) -> Prepared
+) -> Option<Prepared>
     requires { CanPrepare kinds.now look.now kept.now types.old roles.old starts.old order.old }
-    ensures { Preparing result.ok table.now look.now kept.now
-        (brief_by result types.new roles.new starts.new order.new) }
+    ensures { Prepares result table.now look.now kept.now types.new roles.new starts.new order.new }
 {
-    let found = vouch::vouch(table, kinds, look, kept, types, roles, starts, order);
-    if found.ok {
-        let inputs = found.inputs;
-        let streams = found.streams;
-        let words = found.words;
-        let room = records::room_of(streams - inputs, found.triggers);
-        let closing = found.closing;
-        Prepared {
-            ok: true,
-            inputs: inputs,
-            streams: streams,
-            words: words,
-            room: room,
-            closing: closing,
-        }
-    } else {
-        unprepared()
-    }
+    let found = vouch::vouch(table, kinds, look, kept, types, roles, starts, order)?;
+    let inputs = found.inputs;
+    let streams = found.streams;
+    let words = found.words;
+    let room = records::room_of(streams - inputs, found.triggers);
+    Some(Prepared {
+        inputs,
+        streams,
+        words,
+        room,
+        closing: found.closing,
+    })
 }

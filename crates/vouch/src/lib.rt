@@ -35,10 +35,9 @@ fn judge(
     expression::see(types, streams, &mut seen);
     let mut tight = [0u32; STREAMS_MOST];
     let mut most = [0u32; STREAMS_MOST];
-    let mut y = inputs;
     let mut next = at;
-    while y < streams {
-        if table::equation_fault(table, kinds, next, y) != 0 {
+    for y in inputs..streams {
+        if table::test_equation(table, kinds, next, y).is_err() {
             return false;
         }
         let start = next + 2;
@@ -48,46 +47,27 @@ fn judge(
         } else {
             expression::scan_operator(table, kinds, &mut seen, wanted, start, limits::LEVELS_MOST)
         };
-        if expression::refuses(end) {
+        let Ok(end) = end.outcome() else {
             return false;
-        }
+        };
         if !certificate::note_row(&mut tight, &mut most, look, &mut seen, y, streams) {
             return false;
         }
         starts[y] = start as u16;
         next = end;
-        y += 1;
     }
-    if next == table.len() {
-        certificate::settle(&tight, &most, look, kept, streams, order)
-    } else {
-        false
-    }
+    next == table.len() && certificate::settle(&tight, &most, look, kept, streams, order)
 }
 
-// Whether the record's numbers are vouched for, and how many streams the table has; the rest that a call needs of the table is in arrays that the caller
-// lends, since an array that is written entry by entry and then returned is copied before the writes have settled.
+// How many inputs and streams the table of a record has, and the sums of the record's numbers; the rest that a call needs of the table is in
+// arrays that the caller lends, since an array that is written entry by entry and then returned is copied before the writes have settled.
 #[derive(Clone, Copy)]
 pub struct Found {
-    pub ok: bool,
     pub inputs: usize,
     pub streams: usize,
     pub words: usize,
     pub triggers: usize,
     pub closing: u16,
-}
-
-fn unvouched() -> Found
-    ensures { result.ok ≡ false }
-{
-    Found {
-        ok: false,
-        inputs: 0,
-        streams: 0,
-        words: 0,
-        triggers: 0,
-        closing: 0,
-    }
 }
 
 // Whether the bytes are those of a table and the numbers those of a record of this table; where they are, the lent arrays, all zeros before,
@@ -101,35 +81,33 @@ pub fn vouch(
     roles: &mut [u8; STREAMS_MOST],
     starts: &mut [u16; STREAMS_MOST],
     order: &mut [u8; STREAMS_MOST],
-) -> Found
+) -> Option<Found>
     requires { Tabulated kinds.now × Blank types.old roles.old starts.old order.old }
-    ensures { Verdict result.ok table.now look.now kept.now
-        (vouched_by result types.new roles.new starts.new order.new)
-        × Summed result look.now kept.now roles.new }
+    ensures { Vouches result table.now look.now kept.now types.new roles.new starts.new order.new }
 {
-    let heading = table::scan_heading(table, kinds, types, roles);
-    if heading.number != 0 {
-        return unvouched();
-    }
+    let Ok(heading) = table::scan_heading(table, kinds, types, roles) else {
+        return None;
+    };
     let inputs = heading.inputs;
     let streams = heading.streams;
     if !numbers::zero_past(look, kept, streams) {
-        return unvouched();
+        return None;
     }
     let sums = numbers::sums(look, kept, roles, streams);
     if limits::STORE_MOST < sums.words {
-        return unvouched();
+        return None;
     }
     let place = heading.place;
-    let ok = judge(
+    if !judge(
         table, kinds, types, inputs, streams, place, look, kept, starts, order,
-    );
-    Found {
-        ok: ok,
-        inputs: inputs,
-        streams: streams,
+    ) {
+        return None;
+    }
+    Some(Found {
+        inputs,
+        streams,
         words: sums.words,
         triggers: sums.triggers,
         closing: sums.closing,
-    }
+    })
 }
