@@ -47,7 +47,7 @@ pub enum Value {
 // What an operator takes of an operand. One of another type, which no accepted table has, counts as
 // false, 0 or +0.
 impl Value {
-    fn flag(self) -> bool
+    pub fn flag(self) -> bool
         ensures { result ≡ flag_for self }
     {
         match self {
