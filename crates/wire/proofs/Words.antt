@@ -1,13 +1,13 @@
 -- Laws of a word and its bytes: reading back what was put, and words of a list that is put together or shortened in front.
 -- Assumes nothing.
-use mathlib.Core.Path.{◌≡◌, refl, sym, ap, ◌∙◌}
+use mathlib.Core.Path.{◌≡◌, refl, sym}
 use mathlib.Core.List.{List, [], ◌∷◌, ◌++◌}
 use Prim.Native.Nat.{ℕ, zero, suc, ◌+◌, ◌-◌, ◌/◌, ◌%◌, ◌^◌, ◌<◌, ◌≤◌}
 use native.Mathlib.Nat.{div-div-eq-div-mul, div-add-mod'}
 use native.Mathlib.Omega.{arith}
 use borrow.Rule.Slice.PartMut.{put_mid}
 use lib.ListN.{length, get_or, take, drop, get_or-append, length-append, length-take, length-drop}
-use lib.Seq.{get_or-append-add, get_or-drop}
+use lib.Seq.{get_or-append-add}
 use Rattle.std.specs.Int.{w32, to_le_bytes}
 use Rattle.std.proofs.lemmas.Slice.{take-put_mid, drop-put_mid}
 use Rattle.basis.specs.Written.{Wrote}
@@ -87,14 +87,3 @@ module _ (a b : List ℕ) where
   unfolding word_at
   word_past j k e =
       rw (byte_past j k e, byte_past (j + 1) (k + 1) (omega arith), byte_past (j + 2) (k + 2) (omega arith), byte_past (j + 3) (k + 3) (omega arith))
-
--- bytes and words of what is left behind the first i bytes
-pub first_behind : (l : List ℕ) (i : ℕ) → get_or (drop i l) 0 0 ≡ get_or l i 0
-first_behind l i = get_or-drop i l 0 0 ∙ ap (λ (n : ℕ). get_or l n 0) (omega arith)
-
-byte_behind : (l : List ℕ) (i k j : ℕ) → get_or (drop i l) (k + j) 0 ≡ get_or l (i + k + j) 0
-byte_behind l i k j = get_or-drop i l (k + j) 0 ∙ ap (λ (n : ℕ). get_or l n 0) (omega arith)
-
-pub word_behind : (l : List ℕ) (i k : ℕ) → word_at l (i + k) ≡ word_at (drop i l) k
-unfolding word_at
-word_behind l i k = rw (get_or-drop i l k 0, byte_behind l i k 1, byte_behind l i k 2, byte_behind l i k 3)
