@@ -14,14 +14,22 @@ pub fn put_byte(out: &mut [u8], at: usize, b: u8) -> usize
     at + 1
 }
 
+// The bytes given, one after the other.
+pub fn put_bytes(out: &mut [u8], at: usize, bytes: &[u8]) -> usize
+    requires { at + length bytes.now ≤ length out.old }
+    ensures { Wrote out.old at bytes.now out.new result }
+{
+    let end = at + bytes.len();
+    out[at..end].copy_from_slice(bytes);
+    end
+}
+
 // Four bytes, the lowest first.
 pub fn put_word(out: &mut [u8], at: usize, w: u32) -> usize
     requires { at + 4 ≤ length out.old }
     ensures { Wrote out.old at (le4 w) out.new result }
 {
-    let end = at + 4;
-    out[at..end].copy_from_slice(&w.to_le_bytes());
-    end
+    put_bytes(out, at, &w.to_le_bytes())
 }
 
 // The number in the four bytes from `at` on.
