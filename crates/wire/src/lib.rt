@@ -14,15 +14,22 @@ pub fn put_byte(out: &mut [u8], at: usize, b: u8) -> usize
     at + 1
 }
 
+// The bytes given, one after the other.
+pub fn put_bytes(out: &mut [u8], at: usize, bytes: &[u8]) -> usize
+    requires { at + length bytes.now ≤ length out.old }
+    ensures { Wrote out.old at bytes.now out.new result }
+{
+    let end = at + bytes.len();
+    out[at..end].copy_from_slice(bytes);
+    end
+}
+
 // Four bytes, the lowest first.
 pub fn put_word(out: &mut [u8], at: usize, w: u32) -> usize
     requires { at + 4 ≤ length out.old }
     ensures { Wrote out.old at (le4 w) out.new result }
 {
-    let b = put_byte(out, at, (w % 256) as u8);
-    let c = put_byte(out, b, (w / 256 % 256) as u8);
-    let d = put_byte(out, c, (w / 65536 % 256) as u8);
-    put_byte(out, d, (w / 16777216 % 256) as u8)
+    put_bytes(out, at, &w.to_le_bytes())
 }
 
 // The number in the four bytes from `at` on.
@@ -37,7 +44,7 @@ pub fn word_at(bytes: &[u8], at: usize) -> u32
 pub fn word_of(a: u8, b: u8, c: u8, d: u8) -> u32
     ensures { result ≡ word_of a b c d }
 {
-    a as u32 + 256 * (b as u32) + 65536 * (c as u32) + 16777216 * (d as u32)
+    u32::from_le_bytes([a, b, c, d])
 }
 
 // A number of 8, 16 or 32 bits made wider: the same number, with the bound that its type gave.

@@ -1,12 +1,13 @@
 -- A digit below 10, and one from 10 on. Assumes nothing.
-use borrow.Author.Tests.{lt-ltb, le-ltb}
+use Rattle.std.proofs.Common.{arith}
+use Rattle.std.proofs.lemmas.Bool.Decides.{nat_tests}
 use Rattle.lines.specs.Lines.{hex_digit_of}
 use Rattle.lines.proofs.hex_digit.Goals as goal
 
 pub returns-then-d-lt10 : goal.returns-then-d-lt10
 unfolding hex_digit_of
-returns-then-d-lt10 c = rw (lt-ltb _ 10 c.if-d-lt10.true)
+returns-then-d-lt10 c = grind (arith, nat_tests)
 
 pub returns-else-d-lt10 : goal.returns-else-d-lt10
 unfolding hex_digit_of
-returns-else-d-lt10 c = rw (le-ltb _ 10 c.if-d-lt10.false)
+returns-else-d-lt10 c = grind (arith, nat_tests)

@@ -1,8 +1,9 @@
--- `wire::put_word` meets its contract: four bytes, one after the other.
+-- `wire::put_word` meets its contract: std's four bytes are the word's.
 -- Assumes nothing.
-use Rattle.basis.proofs.Written.{then}
-use Rattle.wire.proofs.Words.{wrote_word}
+use Rattle.std.proofs.Common.{sym, ◌∙◌}
+use Rattle.basis.proofs.Written.{wrote_as}
+use Rattle.wire.proofs.Words.{bytes_of_word}
 use Rattle.wire.proofs.put_word.Goals as goal
 
 pub returns : goal.returns
-returns c = wrote_word _ (then (then (then c.put_byte-b.ensures c.put_byte-c.ensures) c.put_byte-d.ensures) c.put_byte.ensures)
+returns c = wrote_as (sym (c.to_le_bytes.ensures ∙ bytes_of_word c.args.w)) c.put_bytes.ensures
