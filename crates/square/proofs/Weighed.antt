@@ -26,6 +26,25 @@ use Rattle.square.specs.Square.{Small, weighed}
 use Rattle.square.proofs.Sizes.{small_mag}
 use Rattle.basis.proofs.Firsts.{firsts_same, get_d_firsts}
 
+-- ---- accepted or refused
+
+module _ (A : ℕ → ℕ → Best) (S : ℕ) where
+  pub weighed_accepted : {look : List ℕ} → Ok look ≡ weighed A S → (loops_below_of (through A S) S ≡ true) × (look ≡ firsts (look_of (through A S) S) most_streams)
+  unfolding weighed
+  weighed_accepted {look} e = go (loops_below_of (through A S) S) e
+    where
+      go : (b : Bool) → Ok look ≡ cond {A = Result (List ℕ) ℕ} b (Ok (firsts (look_of (through A S) S) most_streams)) (Err (place_of A S)) → (b ≡ true) × (look ≡ firsts (look_of (through A S) S) most_streams)
+      go true q = (refl, cc)
+      go false q = absurd (cc)
+
+  pub weighed_refused : {place : ℕ} → Err place ≡ weighed A S → (loops_below_of (through A S) S ≡ false) × (place ≡ place_of A S)
+  unfolding weighed
+  weighed_refused {place} e = go (loops_below_of (through A S) S) e
+    where
+      go : (b : Bool) → Err place ≡ cond {A = Result (List ℕ) ℕ} b (Ok (firsts (look_of (through A S) S) most_streams)) (Err (place_of A S)) → (b ≡ false) × (place ≡ place_of A S)
+      go true q = absurd (cc)
+      go false q = (refl, cc)
+
 -- ---- look-aheads fit
 
 -- the square's cells below S, nothing elsewhere
@@ -77,12 +96,7 @@ module _ (S : ℕ) (A : ℕ → ℕ → Best) (few : S ≤ most_streams) (small 
 
   -- the look-aheads of an accepted square
   pub weighed_look_small : {look : List ℕ} → Ok look ≡ weighed A S → (v : ℕ) → v < most_streams → get_or look v 0 ≤ most_look
-  unfolding weighed
-  weighed_look_small {look} e v h = go (loops_below_of (through A S) S) (λ q. look_of_fits q v) e
-    where
-      go : (b : Bool) → (b ≡ true → look_of (through A S) S v ≤ most_look) → Ok look ≡ cond {A = Result (List ℕ) ℕ} b (Ok (firsts (look_of (through A S) S) most_streams)) (Err (place_of A S)) → get_or look v 0 ≤ most_look
-      go true f q = let l : look ≡ firsts (look_of (through A S) S) most_streams = cc in rw (l, get_d_firsts (look_of (through A S) S) most_streams v 0 h) (f refl)
-      go false f q = absurd (cc)
+  weighed_look_small e v h = let f = weighed_accepted A S e in rw (f.1, get_d_firsts (look_of (through A S) S) most_streams v 0 h) (look_of_fits f.0 v)
 
 -- ---- by the relaxed square D, which is known cell by cell
 
