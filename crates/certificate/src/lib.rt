@@ -92,43 +92,29 @@ pub fn note_row(
     ensures { NotedRow result y s (of look.now) seen.old tight.old most.old
         seen.new tight.new most.new }
 {
-    let mut v = 0;
-    while v < s {
-        if note_cell(tight, most, look, seen, y, v) {
-            v += 1;
-        } else {
+    for v in 0..s {
+        if !note_cell(tight, most, look, seen, y, v) {
             return false;
         }
     }
     true
 }
 
-// The lowest stream of `rest` none of whose tight targets is in `rest`, or `s`.
-fn ready(tight: &[u32; STREAMS_MOST], rest: u32, s: usize) -> usize
+// The lowest stream of `rest` none of whose tight targets is in `rest`.
+fn ready(tight: &[u32; STREAMS_MOST], rest: u32, s: usize) -> Option<usize>
     requires { s ≤ most_streams }
     ensures { Ready tight.now rest s result }
 {
-    let mut y = 0;
-    while y < s {
-        if (rest >> y) % 2 == 1 {
-            if tight[y] & rest == 0 {
-                return y;
-            }
-        }
-        y += 1;
-    }
-    s
+    (0..s).find(|y| (rest >> *y) % 2 == 1 && tight[*y] & rest == 0)
 }
 
 // The same, with the stream `n` tried first: most tables name their streams in an order that serves.
-fn ready_from(tight: &[u32; STREAMS_MOST], rest: u32, s: usize, n: usize) -> usize
+fn ready_from(tight: &[u32; STREAMS_MOST], rest: u32, s: usize, n: usize) -> Option<usize>
     requires { (s ≤ most_streams) × (n < s) }
     ensures { Ready tight.now rest s result }
 {
-    if (rest >> n) % 2 == 1 {
-        if tight[n] & rest == 0 {
-            return n;
-        }
+    if (rest >> n) % 2 == 1 && tight[n] & rest == 0 {
+        return Some(n);
     }
     ready(tight, rest, s)
 }
@@ -144,19 +130,9 @@ fn numbers_agree(
     requires { s ≤ most_streams }
     ensures { Agreed result tight.now most.now look.now kept.now s }
 {
-    let mut v = 0;
-    while v < s {
-        if wire::short_wide(kept[v]) != wire::word_wide(most[v]) + 1 {
-            return false;
-        }
-        if look[v] != 0 {
-            if tight[v] == 0 {
-                return false;
-            }
-        }
-        v += 1;
-    }
-    true
+    (0..s).all(|v| {
+        wire::short_wide(kept[v]) == wire::word_wide(most[v]) + 1 && (look[v] == 0 || tight[v] != 0)
+    })
 }
 
 // Whether the streams below `s` can be put in a line, each behind its tight targets; `order` is lent for it.
@@ -164,17 +140,13 @@ fn ordered(tight: &[u32; STREAMS_MOST], s: usize, order: &mut [u8; STREAMS_MOST]
     requires { (s ≤ most_streams) × (length order.old ≡ most_streams) }
     ensures { InLine result tight.now s order.new }
 {
-    let mut rest: u32 = 4294967295;
-    let mut n = 0;
-    while n < s {
-        let y = ready_from(tight, rest, s, n);
-        if y < s {
-            order[n] = y as u8;
-            rest = rest ^ 1 << y;
-            n += 1;
-        } else {
+    let mut rest = u32::MAX;
+    for n in 0..s {
+        let Some(y) = ready_from(tight, rest, s, n) else {
             return false;
-        }
+        };
+        order[n] = y as u8;
+        rest ^= 1 << y;
     }
     true
 }
@@ -192,8 +164,5 @@ pub fn settle(
     ensures { (es : List Edge) → Within (Among es) s → Tally (Among es) (of look.now) tight.now most.now
         → Settled result (Among es) s (of look.now) (of kept.now) order.new }
 {
-    if numbers_agree(tight, most, look, kept, s) {
-        return ordered(tight, s, order);
-    }
-    false
+    numbers_agree(tight, most, look, kept, s) && ordered(tight, s, order)
 }
