@@ -124,11 +124,7 @@ pub fn clear(store: &mut [u32], words: usize)
     requires { words ≤ length store.old }
     ensures { store.new ≡ cleared_of words store.old }
 {
-    let mut word: usize = 0;
-    while word < words {
-        store[word] = 0;
-        word += 1;
-    }
+    store[..words].fill(0);
 }
 
 // The frame of turn t, where `known` rows are known. The running sum of the kept numbers is where a part starts.
@@ -145,8 +141,7 @@ pub fn lay(
     ensures { Framed types.now look.now kept.now streams known t frame.new }
 {
     let mut part = 0;
-    let mut v = 0;
-    while v < streams {
+    for v in 0..streams {
         let ahead = wire::short_wide(look[v]);
         let n = wire::short_word(kept[v]);
         if ahead <= t {
@@ -161,7 +156,6 @@ pub fn lay(
         frame[v][KEPT] = n;
         frame[v][TYPE] = wire::byte_word(types[v]);
         part += n;
-        v += 1;
     }
     frame[TURN][KNOWN] = known as u32;
 }

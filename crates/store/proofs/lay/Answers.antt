@@ -11,7 +11,7 @@ use Rattle.store.proofs.lay.Goals as goal
 use Rattle.store.proofs.lay.Goals.{then-t-known, else-t-known, then-ahead-t, else-ahead-t}
 
 pub loop-v-init : goal.loop-v-init
-loop-v-init c = (omega arith, (omega arith, (none_before _, laid_none _ _ _ _ _ c.requires.shape)))
+loop-v-init c = record { small = omega arith; part = none_before _; laid = laid_none _ _ _ _ _ c.requires.shape }
 
 pub overflow_cast-p : goal.overflow_cast-p
 overflow_cast-p c =
@@ -27,7 +27,7 @@ pub lap_before-requires : goal.lap_before-requires
 lap_before-requires c = omega (arith, c.short_word-n.ensures.0, c.requires.some _ c.loop-v-test.true)
 
 pub overflow_add-part : goal.overflow_add-part
-overflow_add-part c = record { fits = omega (arith, c.loop-v.invariant.1.0, c.short_word-n.ensures.1, c.loop-v-test.true, c.requires.few) }
+overflow_add-part c = record { fits = omega (arith, c.loop-v.invariant.small, c.short_word-n.ensures.1, c.loop-v-test.true, c.requires.few) }
 
 pub loop-v-preserved : goal.loop-v-preserved
 loop-v-preserved c =
@@ -38,7 +38,7 @@ loop-v-preserved c =
     let t = c.args.t in
     let v = c.loop-v.v in
     let below : v < most_streams = omega (arith, c.loop-v-test.true, c.requires.few) in
-    let laid = c.loop-v.invariant.1.1.1 in
+    let laid = c.loop-v.invariant.laid in
     let lapped : Lapped types look kept n t v c.if-ahead-t.frame = elim c.if-ahead-t.branch [
       | then-ahead-t w ↦
           (let newest : w.if-t-known.p ≡ newest_of look n t v = elim w.if-t-known.branch [
@@ -48,10 +48,10 @@ loop-v-preserved c =
           lapped_due types look kept n t v below laid newest c.short_word-n.ensures.0 w.lap_before.ensures w.frame-is)
       | else-ahead-t w ↦ lapped_not types look kept n t v below laid c.short_wide-ahead.ensures.0 w.if-ahead-t.false w.frame-is
     ] in
-    let starts = c.loop-v.invariant.1.1.0 in
-    let narrow : c.loop-v.part + c.short_word-n.result < 2 ^ 32 = omega (arith, c.loop-v.invariant.1.0, c.short_word-n.ensures.1, c.loop-v-test.true, c.requires.few) in
+    let starts = c.loop-v.invariant.part in
+    let narrow : c.loop-v.part + c.short_word-n.result < 2 ^ 32 = omega (arith, c.loop-v.invariant.small, c.short_word-n.ensures.1, c.loop-v-test.true, c.requires.few) in
     let more = laid_more types look kept n t v below lapped starts c.short_word-n.ensures.0 c.byte_word.ensures.0 narrow c.byte_word.ensures.1 in
-    (omega arith, (omega (arith, c.loop-v.invariant.1.0, c.short_word-n.ensures.1), (sum_on _ starts c.short_word-n.ensures.0, more)))
+    record { small = omega (arith, c.loop-v.invariant.small, c.short_word-n.ensures.1); part = sum_on _ starts c.short_word-n.ensures.0; laid = more }
 
 pub returns : goal.returns
-returns c = framed c.requires.few c.loop-v.invariant.0 c.loop-v-test.false c.loop-v.invariant.1.1.1
+returns c = framed c.requires.few c.loop-v.auto.v-end c.loop-v-test.false c.loop-v.invariant.laid
