@@ -155,9 +155,8 @@ pub fn turn(
 {
     store::lay(types, look, kept, streams, known, t, frame);
     store::lend(frame, store.len());
-    let mut i = 0;
-    while i < streams {
-        let y = byte_size(order[i]);
+    for stream in &order[..streams] {
+        let y = byte_size(*stream);
         let ahead = wire::short_wide(look[y]);
         if ahead <= t && t < known + ahead {
             let position = (t - ahead) as u32;
@@ -175,6 +174,5 @@ pub fn turn(
                 store::write(store, frame, y, position, value);
             }
         }
-        i += 1;
     }
 }
