@@ -37,10 +37,8 @@ fn give(
     let word = store::word(store, frame, y, place);
     let stream = y as u8;
     let next = records::put_value(out, at, stream, place, word);
-    if roles[y] == 1 {
-        if word != 0 {
-            return records::put_trigger(out, next, stream, place);
-        }
+    if roles[y] == 1 && word != 0 {
+        return records::put_trigger(out, next, stream, place);
     }
     next
 }
@@ -61,12 +59,9 @@ pub fn emit(
     ensures { Emits roles.now look.now frame.now store.now known t inputs streams
         out.old out.new result }
 {
-    let mut count: usize = 0;
-    let mut y = inputs;
-    while y < streams {
-        let next = give(store, out, roles, look, frame, known, t, y, count);
-        count = next;
-        y += 1;
+    let mut count = 0;
+    for y in inputs..streams {
+        count = give(store, out, roles, look, frame, known, t, y, count);
     }
     count
 }
