@@ -28,8 +28,7 @@ fn mark(set: u32, v: usize, test: bool) -> u32
     requires { v < most_streams }
     ensures { result ≡ marked set v test }
 {
-    let bit: u32 = if test { 1 } else { 0 };
-    set | bit << v
+    set | u32::from(test) << v
 }
 
 // The larger of `most` and of what `have` is above `want`.
@@ -58,12 +57,12 @@ fn note_cell(
         → NotedCell result y v s (of look.now) rise fall tight.old most.old tight.new most.new)
         × (seen.new ≡ cond result (wiped v seen.old) seen.old) }
 {
-    let top = wire::short_word(seen[v][expression::SEEN_RISE]);
+    let top = u32::from(seen[v][expression::SEEN_RISE]);
     if top == 0 {
         return true;
     }
-    let have = wire::short_word(look[y]);
-    let ahead = wire::short_word(look[v]);
+    let have = u32::from(look[y]);
+    let ahead = u32::from(look[v]);
     let want = top + ahead;
     if have + RISE_OF_ZERO < want {
         return false;
@@ -71,7 +70,7 @@ fn note_cell(
     tight[y] = mark(tight[y], v, have + RISE_OF_ZERO == want);
     most[v] = looser(
         most[v],
-        have + wire::short_word(seen[v][expression::SEEN_FALL]),
+        have + u32::from(seen[v][expression::SEEN_FALL]),
         FALL_OF_ZERO + ahead,
     );
     seen[v][expression::SEEN_RISE] = 0;
@@ -131,7 +130,7 @@ fn numbers_agree(
     ensures { Agreed result tight.now most.now look.now kept.now s }
 {
     (0..s).all(|v| {
-        wire::short_wide(kept[v]) == wire::word_wide(most[v]) + 1 && (look[v] == 0 || tight[v] != 0)
+        u64::from(kept[v]) == u64::from(most[v]) + 1 && (look[v] == 0 || tight[v] != 0)
     })
 }
 
