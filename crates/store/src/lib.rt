@@ -82,8 +82,8 @@ pub fn lent(frame: &[[u32; FRAME_ENTRIES]; FRAME_ROWS]) -> usize
     requires { Shaped frame_rows frame_entries frame.now }
     ensures { result ≡ lent_in frame.now }
 {
-    let low = wire::word_wide(frame[TURN][LENT]);
-    let high = wire::word_wide(frame[TURN][LENT_HIGH]);
+    let low = u64::from(frame[TURN][LENT]);
+    let high = u64::from(frame[TURN][LENT_HIGH]);
     (low + high * HIGH_ONE) as usize
 }
 
@@ -142,8 +142,8 @@ pub fn lay(
 {
     let mut part = 0;
     for v in 0..streams {
-        let ahead = wire::short_wide(look[v]);
-        let n = wire::short_word(kept[v]);
+        let ahead = u64::from(look[v]);
+        let n = u32::from(kept[v]);
         if ahead <= t {
             let p = if t < known + ahead {
                 t - ahead
@@ -154,7 +154,7 @@ pub fn lay(
         }
         frame[v][PART] = part;
         frame[v][KEPT] = n;
-        frame[v][TYPE] = wire::byte_word(types[v]);
+        frame[v][TYPE] = u32::from(types[v]);
         part += n;
     }
     frame[TURN][KNOWN] = known as u32;

@@ -18,16 +18,16 @@ overflow_cast-p c =
     let look = c.args.look.now in
     let v = c.loop-v.v in
     let newest : c.if-t-known.p ≡ newest_of look c.args.known c.args.t v = elim c.if-t-known.branch [
-      | then-t-known w ↦ newest_due look c.args.known c.args.t v c.short_wide-ahead.ensures.0 w.if-t-known.true w.p-is
-      | else-t-known w ↦ newest_last look c.args.known c.args.t v c.short_wide-ahead.ensures.0 w.if-t-known.false w.p-is
+      | then-t-known w ↦ newest_due look c.args.known c.args.t v c.from-ahead.ensures w.if-t-known.true w.p-is
+      | else-t-known w ↦ newest_last look c.args.known c.args.t v c.from-ahead.ensures w.if-t-known.false w.p-is
     ] in
-    record { fits = omega (arith, newest, newest_small look c.args.known c.args.t v c.short_wide-ahead.ensures.0 c.requires.row newest, c.requires.rows) }
+    record { fits = omega (arith, newest, newest_small look c.args.known c.args.t v c.from-ahead.ensures c.requires.row newest, c.requires.rows) }
 
 pub lap_before-requires : goal.lap_before-requires
-lap_before-requires c = omega (arith, c.short_word-n.ensures.0, c.requires.some _ c.loop-v-test.true)
+lap_before-requires c = omega (arith, c.from-n.ensures, c.requires.some _ c.loop-v-test.true)
 
 pub overflow_add-part : goal.overflow_add-part
-overflow_add-part c = record { fits = omega (arith, c.loop-v.invariant.small, c.short_word-n.ensures.1, c.loop-v-test.true, c.requires.few) }
+overflow_add-part c = record { fits = omega (arith, c.loop-v.invariant.small, c.from-n.ensures, c.fits-kept c.loop-v.v, c.loop-v-test.true, c.requires.few) }
 
 pub loop-v-preserved : goal.loop-v-preserved
 loop-v-preserved c =
@@ -42,16 +42,16 @@ loop-v-preserved c =
     let lapped : Lapped types look kept n t v c.if-ahead-t.frame = elim c.if-ahead-t.branch [
       | then-ahead-t w ↦
           (let newest : w.if-t-known.p ≡ newest_of look n t v = elim w.if-t-known.branch [
-            | then-t-known y ↦ newest_due look n t v c.short_wide-ahead.ensures.0 y.if-t-known.true y.p-is
-            | else-t-known y ↦ newest_last look n t v c.short_wide-ahead.ensures.0 y.if-t-known.false y.p-is
+            | then-t-known y ↦ newest_due look n t v c.from-ahead.ensures y.if-t-known.true y.p-is
+            | else-t-known y ↦ newest_last look n t v c.from-ahead.ensures y.if-t-known.false y.p-is
           ] in
-          lapped_due types look kept n t v below laid newest c.short_word-n.ensures.0 w.lap_before.ensures w.frame-is)
-      | else-ahead-t w ↦ lapped_not types look kept n t v below laid c.short_wide-ahead.ensures.0 w.if-ahead-t.false w.frame-is
+          lapped_due types look kept n t v below laid newest c.from-n.ensures w.lap_before.ensures w.frame-is)
+      | else-ahead-t w ↦ lapped_not types look kept n t v below laid c.from-ahead.ensures w.if-ahead-t.false w.frame-is
     ] in
     let starts = c.loop-v.invariant.part in
-    let narrow : c.loop-v.part + c.short_word-n.result < 2 ^ 32 = omega (arith, c.loop-v.invariant.small, c.short_word-n.ensures.1, c.loop-v-test.true, c.requires.few) in
-    let more = laid_more types look kept n t v below lapped starts c.short_word-n.ensures.0 c.byte_word.ensures.0 narrow c.byte_word.ensures.1 in
-    record { small = omega (arith, c.loop-v.invariant.small, c.short_word-n.ensures.1); part = sum_on _ starts c.short_word-n.ensures.0; laid = more }
+    let narrow : c.loop-v.part + c.from-n.result < 2 ^ 32 = omega (arith, c.loop-v.invariant.small, c.from-n.ensures, c.fits-kept c.loop-v.v, c.loop-v-test.true, c.requires.few) in
+    let more = laid_more types look kept n t v below lapped starts c.from-n.ensures c.from.ensures narrow (omega (arith, c.from.ensures, c.fits-types c.loop-v.v)) in
+    record { small = omega (arith, c.loop-v.invariant.small, c.from-n.ensures, c.fits-kept c.loop-v.v); part = sum_on _ starts c.from-n.ensures; laid = more }
 
 pub returns : goal.returns
 returns c = framed c.requires.few c.loop-v.auto.v-end c.loop-v-test.false c.loop-v.invariant.laid
