@@ -12,7 +12,6 @@ use limits::STREAMS_MOST;
 use node::{ENTRIES, KINDS_MOST, Node};
 use store::{FRAME_ENTRIES, FRAME_ROWS, KNOWN, POSITION, TURN, TYPE};
 use value::Value;
-use wire::byte_size;
 
 // The note of the weight 0, to reckon with.
 const RISE_OF_ZERO: u64 = limits::RISE_OF_ZERO as u64;
@@ -28,10 +27,10 @@ fn referred(
     requires { Referable frame.now (length store.now) v k }
     ensures { result ≡ referred_in frame.now store.now v k word }
 {
-    let noted = wire::word_wide(frame[TURN][POSITION]) + wire::short_wide(expression::rising_of(k));
+    let noted = u64::from(frame[TURN][POSITION]) + u64::from(expression::rising_of(k));
     if RISE_OF_ZERO <= noted {
         let q = noted - RISE_OF_ZERO;
-        if q < wire::word_wide(frame[TURN][KNOWN]) {
+        if q < u64::from(frame[TURN][KNOWN]) {
             return store::read(store, frame, v, q as u32);
         }
     }
@@ -68,14 +67,14 @@ fn leaf(
     let kind = bytes[at];
     let start = at + 1;
     let node = node::node_of(bytes, kind, start);
-    let next = start + byte_size(node::leaf_body(node));
+    let next = start + usize::from(node::leaf_body(node));
     match node {
         Node::Constant(t, w) => valued(value::reading(t, w), next),
         Node::Now(v) => valued(
-            store::read(store, frame, byte_size(v), frame[TURN][POSITION]),
+            store::read(store, frame, usize::from(v), frame[TURN][POSITION]),
             next,
         ),
-        Node::At(v, k, w) => valued(referred(store, frame, byte_size(v), k, w), next),
+        Node::At(v, k, w) => valued(referred(store, frame, usize::from(v), k, w), next),
         // Never: a leaf stands there.
         Node::Operator(_) => valued(Value::Flag(false), next),
     }
@@ -97,7 +96,7 @@ fn eval(
 {
     let held = &store[0..store::lent(frame)];
     let op = bytes[at];
-    let operands = node::operands_of(kinds, byte_size(op));
+    let operands = node::operands_of(kinds, usize::from(op));
     let left = levels - 1;
     let one = if node::is_leaf(bytes, at + 1) {
         leaf(bytes, held, frame, at + 1)
@@ -156,15 +155,15 @@ pub fn turn(
     store::lay(types, look, kept, streams, known, t, frame);
     store::lend(frame, store.len());
     for stream in &order[..streams] {
-        let y = byte_size(*stream);
-        let ahead = wire::short_wide(look[y]);
+        let y = usize::from(*stream);
+        let ahead = u64::from(look[y]);
         if ahead <= t && t < known + ahead {
             let position = (t - ahead) as u32;
             if y < inputs {
                 store::write(store, frame, y, position, value::reading(types[y], row[y]));
             } else {
                 frame[TURN][POSITION] = position;
-                let at = wire::short_size(starts[y]);
+                let at = usize::from(starts[y]);
                 let e = if node::is_leaf(bytes, at) {
                     leaf(bytes, store, frame, at)
                 } else {

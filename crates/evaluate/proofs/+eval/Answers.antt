@@ -32,7 +32,7 @@ pub bounds-bytes-at : goal.bounds-bytes-at
 bounds-bytes-at t c = (standing_at c.requires.1.readable).inside
 
 pub operands_of-operands-requires : goal.operands_of-operands-requires
-operands_of-operands-requires t c = (rw c.byte_size.ensures.0 (low_kind c.requires.1.readable), c.requires.0)
+operands_of-operands-requires t c = (rw c.from.ensures (low_kind c.requires.1.readable), c.requires.0)
 
 pub overflow_sub-left : goal.overflow_sub-left
 overflow_sub-left t c = omega (arith, (standing_at c.requires.1.readable).level)
@@ -66,7 +66,7 @@ eval-one-requires t c =
 pub is_leaf-requires-then-operands-ne1 : goal.is_leaf-requires-then-operands-ne1
 is_leaf-requires-then-operands-ne1 t c =
     let held = all_lent c.args.store.now (c.lent.ensures ∙ c.requires.1.readable.turn.lent) in
-    let operands : c.operands_of-operands.result ≡ (rule_of (get_or c.args.bytes.now c.args.at 0)).operands = rw c.byte_size.ensures.0 at c.operands_of-operands.ensures in
+    let operands : c.operands_of-operands.result ≡ (rule_of (get_or c.args.bytes.now c.args.at 0)).operands = rw c.from.ensures at c.operands_of-operands.ensures in
     let first : Evaluates (c.args.levels - 1) c.args.frame.now c.args.store.now c.args.bytes.now (c.args.at + 1) c.if-is_leaf.one = elim c.if-is_leaf.branch [
       | then-is_leaf y ↦ evaluates_on (c.args.levels - 1) c.args.frame.now c.args.store.now c.args.bytes.now (c.args.at + 1) held y.one-is (y.leaf-one.ensures (c.args.levels - 1))
       | else-is_leaf y ↦ evaluates_on (c.args.levels - 1) c.args.frame.now c.args.store.now c.args.bytes.now (c.args.at + 1) held y.one-is y.eval-one.ensures
@@ -78,7 +78,7 @@ is_leaf-requires-then-operands-ne1 t c =
 pub leaf-two-requires : goal.leaf-two-requires
 leaf-two-requires t c =
     let held = all_lent c.args.store.now (c.lent.ensures ∙ c.requires.1.readable.turn.lent) in
-    let operands : c.operands_of-operands.result ≡ (rule_of (get_or c.args.bytes.now c.args.at 0)).operands = rw c.byte_size.ensures.0 at c.operands_of-operands.ensures in
+    let operands : c.operands_of-operands.result ≡ (rule_of (get_or c.args.bytes.now c.args.at 0)).operands = rw c.from.ensures at c.operands_of-operands.ensures in
     let first : Evaluates (c.args.levels - 1) c.args.frame.now c.args.store.now c.args.bytes.now (c.args.at + 1) c.if-is_leaf.one = elim c.if-is_leaf.branch [
       | then-is_leaf y ↦ evaluates_on (c.args.levels - 1) c.args.frame.now c.args.store.now c.args.bytes.now (c.args.at + 1) held y.one-is (y.leaf-one.ensures (c.args.levels - 1))
       | else-is_leaf y ↦ evaluates_on (c.args.levels - 1) c.args.frame.now c.args.store.now c.args.bytes.now (c.args.at + 1) held y.one-is y.eval-one.ensures
@@ -90,7 +90,7 @@ leaf-two-requires t c =
 pub eval-two-requires : goal.eval-two-requires
 eval-two-requires t c =
     let held = all_lent c.args.store.now (c.lent.ensures ∙ c.requires.1.readable.turn.lent) in
-    let operands : c.operands_of-operands.result ≡ (rule_of (get_or c.args.bytes.now c.args.at 0)).operands = rw c.byte_size.ensures.0 at c.operands_of-operands.ensures in
+    let operands : c.operands_of-operands.result ≡ (rule_of (get_or c.args.bytes.now c.args.at 0)).operands = rw c.from.ensures at c.operands_of-operands.ensures in
     let first : Evaluates (c.args.levels - 1) c.args.frame.now c.args.store.now c.args.bytes.now (c.args.at + 1) c.if-is_leaf.one = elim c.if-is_leaf.branch [
       | then-is_leaf y ↦ evaluates_on (c.args.levels - 1) c.args.frame.now c.args.store.now c.args.bytes.now (c.args.at + 1) held y.one-is (y.leaf-one.ensures (c.args.levels - 1))
       | else-is_leaf y ↦ evaluates_on (c.args.levels - 1) c.args.frame.now c.args.store.now c.args.bytes.now (c.args.at + 1) held y.one-is y.eval-one.ensures
@@ -102,7 +102,7 @@ eval-two-requires t c =
 pub is_leaf-requires-then-operands-eq3 : goal.is_leaf-requires-then-operands-eq3
 is_leaf-requires-then-operands-eq3 t c =
     let held = all_lent c.args.store.now (c.lent.ensures ∙ c.requires.1.readable.turn.lent) in
-    let operands : c.operands_of-operands.result ≡ (rule_of (get_or c.args.bytes.now c.args.at 0)).operands = rw c.byte_size.ensures.0 at c.operands_of-operands.ensures in
+    let operands : c.operands_of-operands.result ≡ (rule_of (get_or c.args.bytes.now c.args.at 0)).operands = rw c.from.ensures at c.operands_of-operands.ensures in
     let first : Evaluates (c.args.levels - 1) c.args.frame.now c.args.store.now c.args.bytes.now (c.args.at + 1) c.if-is_leaf.one = elim c.if-is_leaf.branch [
       | then-is_leaf y ↦ evaluates_on (c.args.levels - 1) c.args.frame.now c.args.store.now c.args.bytes.now (c.args.at + 1) held y.one-is (y.leaf-one.ensures (c.args.levels - 1))
       | else-is_leaf y ↦ evaluates_on (c.args.levels - 1) c.args.frame.now c.args.store.now c.args.bytes.now (c.args.at + 1) held y.one-is y.eval-one.ensures
@@ -119,7 +119,7 @@ is_leaf-requires-then-operands-eq3 t c =
 pub leaf-three-requires : goal.leaf-three-requires
 leaf-three-requires t c =
     let held = all_lent c.args.store.now (c.lent.ensures ∙ c.requires.1.readable.turn.lent) in
-    let operands : c.operands_of-operands.result ≡ (rule_of (get_or c.args.bytes.now c.args.at 0)).operands = rw c.byte_size.ensures.0 at c.operands_of-operands.ensures in
+    let operands : c.operands_of-operands.result ≡ (rule_of (get_or c.args.bytes.now c.args.at 0)).operands = rw c.from.ensures at c.operands_of-operands.ensures in
     let first : Evaluates (c.args.levels - 1) c.args.frame.now c.args.store.now c.args.bytes.now (c.args.at + 1) c.if-is_leaf.one = elim c.if-is_leaf.branch [
       | then-is_leaf y ↦ evaluates_on (c.args.levels - 1) c.args.frame.now c.args.store.now c.args.bytes.now (c.args.at + 1) held y.one-is (y.leaf-one.ensures (c.args.levels - 1))
       | else-is_leaf y ↦ evaluates_on (c.args.levels - 1) c.args.frame.now c.args.store.now c.args.bytes.now (c.args.at + 1) held y.one-is y.eval-one.ensures
@@ -136,7 +136,7 @@ leaf-three-requires t c =
 pub eval-three-requires : goal.eval-three-requires
 eval-three-requires t c =
     let held = all_lent c.args.store.now (c.lent.ensures ∙ c.requires.1.readable.turn.lent) in
-    let operands : c.operands_of-operands.result ≡ (rule_of (get_or c.args.bytes.now c.args.at 0)).operands = rw c.byte_size.ensures.0 at c.operands_of-operands.ensures in
+    let operands : c.operands_of-operands.result ≡ (rule_of (get_or c.args.bytes.now c.args.at 0)).operands = rw c.from.ensures at c.operands_of-operands.ensures in
     let first : Evaluates (c.args.levels - 1) c.args.frame.now c.args.store.now c.args.bytes.now (c.args.at + 1) c.if-is_leaf.one = elim c.if-is_leaf.branch [
       | then-is_leaf y ↦ evaluates_on (c.args.levels - 1) c.args.frame.now c.args.store.now c.args.bytes.now (c.args.at + 1) held y.one-is (y.leaf-one.ensures (c.args.levels - 1))
       | else-is_leaf y ↦ evaluates_on (c.args.levels - 1) c.args.frame.now c.args.store.now c.args.bytes.now (c.args.at + 1) held y.one-is y.eval-one.ensures
@@ -153,7 +153,7 @@ eval-three-requires t c =
 pub returns-then-operands-eq3 : goal.returns-then-operands-eq3
 returns-then-operands-eq3 t c =
     let held = all_lent c.args.store.now (c.lent.ensures ∙ c.requires.1.readable.turn.lent) in
-    let operands : c.operands_of-operands.result ≡ (rule_of (get_or c.args.bytes.now c.args.at 0)).operands = rw c.byte_size.ensures.0 at c.operands_of-operands.ensures in
+    let operands : c.operands_of-operands.result ≡ (rule_of (get_or c.args.bytes.now c.args.at 0)).operands = rw c.from.ensures at c.operands_of-operands.ensures in
     let first : Evaluates (c.args.levels - 1) c.args.frame.now c.args.store.now c.args.bytes.now (c.args.at + 1) c.if-is_leaf.one = elim c.if-is_leaf.branch [
       | then-is_leaf y ↦ evaluates_on (c.args.levels - 1) c.args.frame.now c.args.store.now c.args.bytes.now (c.args.at + 1) held y.one-is (y.leaf-one.ensures (c.args.levels - 1))
       | else-is_leaf y ↦ evaluates_on (c.args.levels - 1) c.args.frame.now c.args.store.now c.args.bytes.now (c.args.at + 1) held y.one-is y.eval-one.ensures
@@ -173,7 +173,7 @@ returns-then-operands-eq3 t c =
 pub returns : goal.returns
 returns t c =
     let held = all_lent c.args.store.now (c.lent.ensures ∙ c.requires.1.readable.turn.lent) in
-    let operands : c.operands_of-operands.result ≡ (rule_of (get_or c.args.bytes.now c.args.at 0)).operands = rw c.byte_size.ensures.0 at c.operands_of-operands.ensures in
+    let operands : c.operands_of-operands.result ≡ (rule_of (get_or c.args.bytes.now c.args.at 0)).operands = rw c.from.ensures at c.operands_of-operands.ensures in
     let first : Evaluates (c.args.levels - 1) c.args.frame.now c.args.store.now c.args.bytes.now (c.args.at + 1) c.if-is_leaf.one = elim c.if-is_leaf.branch [
       | then-is_leaf y ↦ evaluates_on (c.args.levels - 1) c.args.frame.now c.args.store.now c.args.bytes.now (c.args.at + 1) held y.one-is (y.leaf-one.ensures (c.args.levels - 1))
       | else-is_leaf y ↦ evaluates_on (c.args.levels - 1) c.args.frame.now c.args.store.now c.args.bytes.now (c.args.at + 1) held y.one-is y.eval-one.ensures

@@ -31,55 +31,55 @@ loop-stream-init c = record {
 }
 
 pub bounds-look-y : goal.bounds-look-y
-bounds-look-y c = omega (arith, named_by c.requires.turnable _ c.loop-stream-test.true c.byte_size-y.ensures.0, c.requires.turnable.few)
+bounds-look-y c = omega (arith, named_by c.requires.turnable _ c.loop-stream-test.true c.from-y.ensures, c.requires.turnable.few)
 
 pub overflow_cast-position : goal.overflow_cast-position
 overflow_cast-position c = record { fits = omega (arith, c.if-t-known.true, c.requires.rows) }
 
 pub bounds-types-y : goal.bounds-types-y
-bounds-types-y c = omega (arith, named_by c.requires.turnable _ c.loop-stream-test.true c.byte_size-y.ensures.0, c.requires.turnable.few)
+bounds-types-y c = omega (arith, named_by c.requires.turnable _ c.loop-stream-test.true c.from-y.ensures, c.requires.turnable.few)
 
 pub bounds-row-y : goal.bounds-row-y
-bounds-row-y c = row_long c.requires.turnable _ c.args.known c.args.t _ c.requires.words c.short_wide-ahead.ensures.0 c.if-t-known.true c.if-y-inputs.true
+bounds-row-y c = row_long c.requires.turnable _ c.args.known c.args.t _ c.requires.words c.from-ahead.ensures c.if-t-known.true c.if-y-inputs.true
 
 pub write-requires : goal.write-requires
-write-requires c = due_findable (moved c.requires.turnable c.loop-stream.invariant.long) c.args.known c.args.t _ (named_by c.requires.turnable _ c.loop-stream-test.true c.byte_size-y.ensures.0) c.short_wide-ahead.ensures.0 c.if-ahead-t.true c.if-t-known.true c.loop-stream.invariant.framed
+write-requires c = due_findable (moved c.requires.turnable c.loop-stream.invariant.long) c.args.known c.args.t _ (named_by c.requires.turnable _ c.loop-stream-test.true c.from-y.ensures) c.from-ahead.ensures c.if-ahead-t.true c.if-t-known.true c.loop-stream.invariant.framed
 
 pub bounds-starts-y : goal.bounds-starts-y
-bounds-starts-y c = omega (arith, named_by c.requires.turnable _ c.loop-stream-test.true c.byte_size-y.ensures.0, c.requires.turnable.few)
+bounds-starts-y c = omega (arith, named_by c.requires.turnable _ c.loop-stream-test.true c.from-y.ensures, c.requires.turnable.few)
 
 pub is_leaf-requires : goal.is_leaf-requires
 is_leaf-requires c =
     let framed = c.loop-stream.invariant.framed in
     let few = c.requires.turnable.few in
-    let position = c.args.t - c.short_wide-ahead.result in
-    let named = named_by c.requires.turnable _ c.loop-stream-test.true c.byte_size-y.ensures.0 in
+    let position = c.args.t - c.from-ahead.result in
+    let named = named_by c.requires.turnable _ c.loop-stream-test.true c.from-y.ensures in
     let lent = lent_put c.loop-stream.frame framed.laid.shape position ∙ c.loop-stream.invariant.lent ∙ sym c.loop-stream.invariant.long in
-    let readable = equation_readable (moved c.requires.turnable c.loop-stream.invariant.long) c.args.known c.args.t _ named c.short_wide-ahead.ensures.0 c.if-ahead-t.true c.if-t-known.true (framed_put few position framed) c.if-y-inputs.false (position_put few position framed) lent c.short_size-at.ensures.0 in
+    let readable = equation_readable (moved c.requires.turnable c.loop-stream.invariant.long) c.args.known c.args.t _ named c.from-ahead.ensures c.if-ahead-t.true c.if-t-known.true (framed_put few position framed) c.if-y-inputs.false (position_put few position framed) lent c.from-at.ensures in
     (standing_at readable).body
 
 pub leaf-e-requires : goal.leaf-e-requires
 leaf-e-requires c =
     let framed = c.loop-stream.invariant.framed in
     let few = c.requires.turnable.few in
-    let position = c.args.t - c.short_wide-ahead.result in
-    let named = named_by c.requires.turnable _ c.loop-stream-test.true c.byte_size-y.ensures.0 in
+    let position = c.args.t - c.from-ahead.result in
+    let named = named_by c.requires.turnable _ c.loop-stream-test.true c.from-y.ensures in
     let lent = lent_put c.loop-stream.frame framed.laid.shape position ∙ c.loop-stream.invariant.lent ∙ sym c.loop-stream.invariant.long in
-    let readable = equation_readable (moved c.requires.turnable c.loop-stream.invariant.long) c.args.known c.args.t _ named c.short_wide-ahead.ensures.0 c.if-ahead-t.true c.if-t-known.true (framed_put few position framed) c.if-y-inputs.false (position_put few position framed) lent c.short_size-at.ensures.0 in
+    let readable = equation_readable (moved c.requires.turnable c.loop-stream.invariant.long) c.args.known c.args.t _ named c.from-ahead.ensures c.if-ahead-t.true c.if-t-known.true (framed_put few position framed) c.if-y-inputs.false (position_put few position framed) lent c.from-at.ensures in
     record { levels = _; readable = readable; leaf = sym c.is_leaf.ensures ∙ c.if-is_leaf.true }
 
 pub eval-e-requires : goal.eval-e-requires
 eval-e-requires c =
     let framed = c.loop-stream.invariant.framed in
     let few = c.requires.turnable.few in
-    let position = c.args.t - c.short_wide-ahead.result in
-    let named = named_by c.requires.turnable _ c.loop-stream-test.true c.byte_size-y.ensures.0 in
+    let position = c.args.t - c.from-ahead.result in
+    let named = named_by c.requires.turnable _ c.loop-stream-test.true c.from-y.ensures in
     let lent = lent_put c.loop-stream.frame framed.laid.shape position ∙ c.loop-stream.invariant.lent ∙ sym c.loop-stream.invariant.long in
-    let readable = equation_readable (moved c.requires.turnable c.loop-stream.invariant.long) c.args.known c.args.t _ named c.short_wide-ahead.ensures.0 c.if-ahead-t.true c.if-t-known.true (framed_put few position framed) c.if-y-inputs.false (position_put few position framed) lent c.short_size-at.ensures.0 in
+    let readable = equation_readable (moved c.requires.turnable c.loop-stream.invariant.long) c.args.known c.args.t _ named c.from-ahead.ensures c.if-ahead-t.true c.if-t-known.true (framed_put few position framed) c.if-y-inputs.false (position_put few position framed) lent c.from-at.ensures in
     (c.requires.kinds_are, record { readable = readable; operator = sym c.is_leaf.ensures ∙ c.if-is_leaf.false })
 
 pub write-requires-else-y-inputs : goal.write-requires-else-y-inputs
-write-requires-else-y-inputs c = due_findable (moved c.requires.turnable c.loop-stream.invariant.long) c.args.known c.args.t _ (named_by c.requires.turnable _ c.loop-stream-test.true c.byte_size-y.ensures.0) c.short_wide-ahead.ensures.0 c.if-ahead-t.true c.if-t-known.true (framed_put c.requires.turnable.few (c.args.t - c.short_wide-ahead.result) c.loop-stream.invariant.framed)
+write-requires-else-y-inputs c = due_findable (moved c.requires.turnable c.loop-stream.invariant.long) c.args.known c.args.t _ (named_by c.requires.turnable _ c.loop-stream-test.true c.from-y.ensures) c.from-ahead.ensures c.if-ahead-t.true c.if-t-known.true (framed_put c.requires.turnable.few (c.args.t - c.from-ahead.result) c.loop-stream.invariant.framed)
 
 pub loop-stream-preserved : goal.loop-stream-preserved
 loop-stream-preserved c =
@@ -87,21 +87,21 @@ loop-stream-preserved c =
     let framed = c.loop-stream.invariant.framed in
     let few = c.requires.turnable.few in
     let now_turnable = moved c.requires.turnable before in
-    let named : c.byte_size-y.result < c.args.streams = named_by c.requires.turnable _ c.loop-stream-test.true c.byte_size-y.ensures.0 in
-    let ahead = c.short_wide-ahead.ensures.0 in
-    let position = c.args.t - c.short_wide-ahead.result in
+    let named : c.from-y.result < c.args.streams = named_by c.requires.turnable _ c.loop-stream-test.true c.from-y.ensures in
+    let ahead = c.from-ahead.ensures in
+    let position = c.args.t - c.from-ahead.result in
     let placed = framed_put few position framed in
     let there = position_put few position framed in
     let lent : lent_in (put c.loop-stream.frame turn_row position_entry position) ≡ length c.args.store.now = lent_put c.loop-stream.frame framed.laid.shape position ∙ c.loop-stream.invariant.lent in
-    let step : Stepped c.args.bytes.now c.args.types.now c.args.look.now c.args.kept.now c.args.starts.now c.args.order.now c.args.inputs c.args.streams c.args.row.now c.loop-stream.store c.args.known c.args.t c.byte_size-y.result c.if-ahead-t.store = elim c.if-ahead-t.branch [
+    let step : Stepped c.args.bytes.now c.args.types.now c.args.look.now c.args.kept.now c.args.starts.now c.args.order.now c.args.inputs c.args.streams c.args.row.now c.loop-stream.store c.args.known c.args.t c.from-y.result c.if-ahead-t.store = elim c.if-ahead-t.branch [
       | then-ahead-t+then-t-known+then-y-inputs w ↦
           input_written c.args.bytes.now c.args.types.now c.args.look.now c.args.kept.now c.args.starts.now c.args.order.now c.args.inputs c.args.streams c.args.row.now c.loop-stream.store c.args.known c.args.t _ ahead _ named now_turnable w.if-ahead-t.true w.if-t-known.true c.loop-stream.frame framed w.if-y-inputs.true w.reading.ensures (w.store-is ∙ w.write.ensures)
       | then-ahead-t+then-t-known+else-y-inputs w ↦
-          (let gave : Evaluates most_levels (put c.loop-stream.frame turn_row position_entry position) c.loop-stream.store c.args.bytes.now w.short_size-at.result w.if-is_leaf.e = elim w.if-is_leaf.branch [
+          (let gave : Evaluates most_levels (put c.loop-stream.frame turn_row position_entry position) c.loop-stream.store c.args.bytes.now w.from-at.result w.if-is_leaf.e = elim w.if-is_leaf.branch [
             | then-is_leaf y ↦ evaluates_as _ _ c.loop-stream.store _ _ y.e-is (y.leaf-e.ensures _)
             | else-is_leaf y ↦ evaluates_as _ _ c.loop-stream.store _ _ y.e-is y.eval-e.ensures
           ] in
-          output_written c.args.bytes.now c.args.types.now c.args.look.now c.args.kept.now c.args.starts.now c.args.order.now c.args.inputs c.args.streams c.args.row.now c.loop-stream.store c.args.known c.args.t _ ahead _ named now_turnable w.if-ahead-t.true w.if-t-known.true _ placed w.if-y-inputs.false there (lent ∙ sym before) w.short_size-at.ensures.0 gave (w.store-is ∙ w.write-else-y-inputs.ensures))
+          output_written c.args.bytes.now c.args.types.now c.args.look.now c.args.kept.now c.args.starts.now c.args.order.now c.args.inputs c.args.streams c.args.row.now c.loop-stream.store c.args.known c.args.t _ ahead _ named now_turnable w.if-ahead-t.true w.if-t-known.true _ placed w.if-y-inputs.false there (lent ∙ sym before) w.from-at.ensures gave (w.store-is ∙ w.write-else-y-inputs.ensures))
       | else-ahead-t w ↦ elim w.else-ahead-t.branch [
         | else-ahead-t-via-then-ahead-t+else-t-known y ↦ late_leaves c.args.bytes.now c.args.types.now c.args.look.now c.args.kept.now c.args.starts.now c.args.order.now c.args.inputs c.args.streams c.args.row.now c.loop-stream.store c.args.known c.args.t _ ahead y.if-t-known.false w.store-is
         | else-ahead-t-via-else-ahead-t y ↦ early_leaves c.args.bytes.now c.args.types.now c.args.look.now c.args.kept.now c.args.starts.now c.args.order.now c.args.inputs c.args.streams c.args.row.now c.loop-stream.store c.args.known c.args.t _ ahead y.if-ahead-t.false w.store-is
@@ -117,7 +117,7 @@ loop-stream-preserved c =
       | then-ahead-t+then-t-known+else-y-inputs w ↦ ap lent_in w.frame-is ∙ lent
       | else-ahead-t w ↦ ap lent_in w.frame-is ∙ c.loop-stream.invariant.lent
     ] in
-    record { long = step_long step ∙ before; framed = framed_on; lent = lent_on; upto = upto_more c.args.bytes.now c.args.types.now c.args.look.now c.args.kept.now c.args.starts.now c.args.order.now c.args.inputs c.args.streams c.args.row.now c.args.store.now c.args.known c.args.t _ _ before c.loop-stream-test.true c.byte_size-y.ensures.0 step c.loop-stream.invariant.upto }
+    record { long = step_long step ∙ before; framed = framed_on; lent = lent_on; upto = upto_more c.args.bytes.now c.args.types.now c.args.look.now c.args.kept.now c.args.starts.now c.args.order.now c.args.inputs c.args.streams c.args.row.now c.args.store.now c.args.known c.args.t _ _ before c.loop-stream-test.true c.from-y.ensures step c.loop-stream.invariant.upto }
 
 pub shape_of-store : goal.shape_of-store
 shape_of-store c = c.loop-stream.invariant.long
