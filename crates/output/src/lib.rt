@@ -25,7 +25,7 @@ fn give(
     ensures { Gives roles.now look.now frame.now store.now known t y
         (λ bytes. Wrote out.old at bytes out.new result) }
 {
-    let ahead = wire::short_wide(look[y]);
+    let ahead = u64::from(look[y]);
     if t < ahead {
         return at;
     }
