@@ -5,7 +5,7 @@
 ghost use Rattle.std.specs.Prelude.{◌≡◌, length};
 ghost use Rattle.node.specs.Kinds.{Tabulated};
 ghost use Rattle.store.specs.Store.{Framed};
-ghost use Rattle.evaluate.specs.Evaluation.{referred_in, Referable, evaluated_of, LeafStands, OperatorStands, Evaluates, EvaluatesLeaf};
+ghost use Rattle.evaluate.specs.Evaluation.{referred_in, Referable, LeafStands, OperatorStands, Evaluates, EvaluatesLeaf};
 ghost use Rattle.evaluate.specs.Turns.{CanTurn, Turns};
 
 use limits::STREAMS_MOST;
@@ -44,16 +44,6 @@ pub struct Evaluated {
     pub next: usize,
 }
 
-// The same, made of its two parts.
-fn valued(value: Value, next: usize) -> Evaluated
-    ensures { result ≡ evaluated_of value next }
-{
-    Evaluated {
-        value: value,
-        next: next,
-    }
-}
-
 // The constant or reference at `at`. The node is an enum, and "the checker's and evaluator's decision goes over it".
 fn leaf(
     bytes: &[u8],
@@ -69,14 +59,23 @@ fn leaf(
     let node = node::node_of(bytes, kind, start);
     let next = start + usize::from(node::leaf_body(node));
     match node {
-        Node::Constant(t, w) => valued(value::reading(t, w), next),
-        Node::Now(v) => valued(
-            store::read(store, frame, usize::from(v), frame[TURN][POSITION]),
+        Node::Constant(t, w) => Evaluated {
+            value: value::reading(t, w),
             next,
-        ),
-        Node::At(v, k, w) => valued(referred(store, frame, usize::from(v), k, w), next),
+        },
+        Node::Now(v) => Evaluated {
+            value: store::read(store, frame, usize::from(v), frame[TURN][POSITION]),
+            next,
+        },
+        Node::At(v, k, w) => Evaluated {
+            value: referred(store, frame, usize::from(v), k, w),
+            next,
+        },
         // Never: a leaf stands there.
-        Node::Operator(_) => valued(Value::Flag(false), next),
+        Node::Operator(_) => Evaluated {
+            value: Value::Flag(false),
+            next,
+        },
     }
 }
 
@@ -120,11 +119,16 @@ fn eval(
             } else {
                 eval(bytes, kinds, held, frame, next, left)
             };
-            let c = three.value;
-            return valued(value::choose(a, b, c), three.next);
+            return Evaluated {
+                value: value::choose(a, b, three.value),
+                next: three.next,
+            };
         }
     }
-    valued(value::apply(op, a, b), next)
+    Evaluated {
+        value: value::apply(op, a, b),
+        next,
+    }
 }
 
 // Turn t, done in place: it "writes exactly the values, inputs included, whose position is that turn less their look-ahead and lies in the

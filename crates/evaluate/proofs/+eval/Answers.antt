@@ -168,7 +168,7 @@ returns-then-operands-eq3 t c =
       | then-is_leaf-3 y ↦ evaluates_on (c.args.levels - 1) c.args.frame.now c.args.store.now c.args.bytes.now c.if-is_leaf-2.two.next held y.three-is (y.leaf-three.ensures (c.args.levels - 1))
       | else-is_leaf-3 y ↦ evaluates_on (c.args.levels - 1) c.args.frame.now c.args.store.now c.args.bytes.now c.if-is_leaf-2.two.next held y.three-is y.eval-three.ensures
     ] in
-    λ x. c.valued.ensures ∙ three_give c.args.store.now x c.requires.1.operator first many second three third c.choose.ensures
+    λ x. three_give c.args.store.now x c.requires.1.operator first many second three third c.choose.ensures
 
 pub returns : goal.returns
 returns t c =
@@ -178,7 +178,7 @@ returns t c =
       | then-is_leaf y ↦ evaluates_on (c.args.levels - 1) c.args.frame.now c.args.store.now c.args.bytes.now (c.args.at + 1) held y.one-is (y.leaf-one.ensures (c.args.levels - 1))
       | else-is_leaf y ↦ evaluates_on (c.args.levels - 1) c.args.frame.now c.args.store.now c.args.bytes.now (c.args.at + 1) held y.one-is y.eval-one.ensures
     ] in
-    λ x. c.valued-2.ensures ∙ elim c.if-operands-ne1.branch [
+    λ x. elim c.if-operands-ne1.branch [
       | then-operands-ne1+else-operands-eq3 w ↦
           (let second : Evaluates (c.args.levels - 1) c.args.frame.now c.args.store.now c.args.bytes.now c.if-is_leaf.one.next w.if-is_leaf-2.two = elim w.if-is_leaf-2.branch [
             | then-is_leaf-2 y ↦ evaluates_on (c.args.levels - 1) c.args.frame.now c.args.store.now c.args.bytes.now c.if-is_leaf.one.next held y.two-is (y.leaf-two.ensures (c.args.levels - 1))
