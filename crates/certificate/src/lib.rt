@@ -35,12 +35,7 @@ fn mark(set: u32, v: usize, test: bool) -> u32
 fn looser(most: u32, have: u32, want: u32) -> u32
     ensures { result ≡ max most (have - want) }
 {
-    if want < have {
-        let slack = have - want;
-        if most < slack { slack } else { most }
-    } else {
-        most
-    }
+    most.max(have.saturating_sub(want))
 }
 
 // Notes the edges of y's equation to `v`: whether each has slack. What was seen of them is cleared, for the next equation.
