@@ -10,31 +10,25 @@ ghost use Rattle.evaluate.specs.Turns.{CanTurn, Turns};
 
 use limits::STREAMS_MOST;
 use node::{ENTRIES, KINDS_MOST, Node};
-use store::{FRAME_ENTRIES, FRAME_ROWS, KNOWN, POSITION, TURN, TYPE};
+use store::Frame;
 use value::Value;
 
 // The note of the weight 0, to reckon with.
 const RISE_OF_ZERO: u64 = limits::RISE_OF_ZERO as u64;
 
 // at(v, k) at the turn's position j: "v at j+k, or the default where j+k is below 0 or not below N". `word` is the default's.
-fn referred(
-    store: &[u32],
-    frame: &[[u32; FRAME_ENTRIES]; FRAME_ROWS],
-    v: usize,
-    k: i8,
-    word: u32,
-) -> Value
+fn referred(store: &[u32], frame: &Frame, v: usize, k: i8, word: u32) -> Value
     requires { Referable frame.now (length store.now) v k }
     ensures { result ≡ referred_in frame.now store.now v k word }
 {
-    let noted = u64::from(frame[TURN][POSITION]) + u64::from(expression::rising_of(k));
+    let noted = u64::from(frame.position) + u64::from(expression::rising_of(k));
     if RISE_OF_ZERO <= noted {
         let q = noted - RISE_OF_ZERO;
-        if q < u64::from(frame[TURN][KNOWN]) {
+        if q < u64::from(frame.known) {
             return store::read(store, frame, v, q as u32);
         }
     }
-    value::reading(frame[v][TYPE] as u8, word)
+    value::reading(frame.parts[v].kind, word)
 }
 
 // An expression's value, and the place behind the expression.
@@ -45,12 +39,7 @@ pub struct Evaluated {
 }
 
 // The constant or reference at `at`. The node is an enum, and "the checker's and evaluator's decision goes over it".
-fn leaf(
-    bytes: &[u8],
-    store: &[u32],
-    frame: &[[u32; FRAME_ENTRIES]; FRAME_ROWS],
-    at: usize,
-) -> Evaluated
+fn leaf(bytes: &[u8], store: &[u32], frame: &Frame, at: usize) -> Evaluated
     requires { LeafStands frame.now (length store.now) bytes.now at }
     ensures { EvaluatesLeaf frame.now store.now bytes.now at result }
 {
@@ -64,7 +53,7 @@ fn leaf(
             next,
         },
         Node::Now(v) => Evaluated {
-            value: store::read(store, frame, usize::from(v), frame[TURN][POSITION]),
+            value: store::read(store, frame, usize::from(v), frame.position),
             next,
         },
         Node::At(v, k, w) => Evaluated {
@@ -86,14 +75,14 @@ fn eval(
     bytes: &[u8],
     kinds: &[[u8; ENTRIES]; KINDS_MOST],
     store: &[u32],
-    frame: &[[u32; FRAME_ENTRIES]; FRAME_ROWS],
+    frame: &Frame,
     at: usize,
     levels: u8,
 ) -> Evaluated
     requires { Tabulated kinds.now × OperatorStands levels frame.now (length store.now) bytes.now at }
     ensures { Evaluates levels frame.now store.now bytes.now at result }
 {
-    let held = &store[0..store::lent(frame)];
+    let held = &store[..frame.lent];
     let op = bytes[at];
     let operands = node::operands_of(kinds, usize::from(op));
     let left = levels - 1;
@@ -144,20 +133,19 @@ pub fn turn(
     kept: &[u16; STREAMS_MOST],
     starts: &[u16; STREAMS_MOST],
     order: &[u8; STREAMS_MOST],
-    frame: &mut [[u32; FRAME_ENTRIES]; FRAME_ROWS],
+    frame: &mut Frame,
     inputs: usize,
     streams: usize,
     known: u64,
     t: u64,
 )
-    requires { CanTurn bytes.now kinds.now types.now look.now kept.now starts.now order.now frame.old
+    requires { CanTurn bytes.now kinds.now types.now look.now kept.now starts.now order.now
         inputs streams (length store.old) (length row.now) known t }
     ensures { Turns bytes.now types.now look.now kept.now starts.now
         order.now inputs streams row.now store.old known t store.new
         × Framed types.now look.now kept.now streams known t frame.new }
 {
-    store::lay(types, look, kept, streams, known, t, frame);
-    store::lend(frame, store.len());
+    store::lay(types, look, kept, streams, known, t, store.len(), frame);
     for stream in &order[..streams] {
         let y = usize::from(*stream);
         let ahead = u64::from(look[y]);
@@ -166,7 +154,7 @@ pub fn turn(
             if y < inputs {
                 store::write(store, frame, y, position, value::reading(types[y], row[y]));
             } else {
-                frame[TURN][POSITION] = position;
+                frame.position = position;
                 let at = usize::from(starts[y]);
                 let e = if node::is_leaf(bytes, at) {
                     leaf(bytes, store, frame, at)

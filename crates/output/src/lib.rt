@@ -7,7 +7,7 @@ ghost use Rattle.basis.specs.Written.{Wrote};
 ghost use Rattle.output.specs.Encoding.{CanGive, Gives, CanEmit, Emits};
 
 use limits::STREAMS_MOST;
-use store::{FRAME_ENTRIES, FRAME_ROWS};
+use store::Frame;
 
 // What the stream y gives on turn t: "a trigger stream's true value is followed by record 51".
 fn give(
@@ -15,7 +15,7 @@ fn give(
     out: &mut [u8],
     roles: &[u8; STREAMS_MOST],
     look: &[u16; STREAMS_MOST],
-    frame: &[[u32; FRAME_ENTRIES]; FRAME_ROWS],
+    frame: &Frame,
     known: u64,
     t: u64,
     y: usize,
@@ -49,7 +49,7 @@ pub fn emit(
     out: &mut [u8],
     roles: &[u8; STREAMS_MOST],
     look: &[u16; STREAMS_MOST],
-    frame: &[[u32; FRAME_ENTRIES]; FRAME_ROWS],
+    frame: &Frame,
     inputs: usize,
     streams: usize,
     known: u64,

@@ -1,11 +1,12 @@
 -- `evaluate::eval` meets its contract, by the levels left: one operand after the other as the grammar reads them, each with operands of its
 -- own or without. Assumes nothing.
-use mathlib.Core.Path.{◌≡◌, sym, ◌∙◌}
+use mathlib.Core.Path.{◌≡◌, sym, ap, ◌∙◌}
 use mathlib.Core.Bool.{Bool, true, false}
 use mathlib.Core.List.{List}
 use native.Mathlib.Omega.{arith}
 use Prim.Native.Nat.{ℕ, ◌+◌, ◌-◌}
 use lib.ListN.{length, get_or}
+use Rattle.store.specs.declared.Frame.{Frame}
 use Rattle.store.proofs.Places.{all_lent}
 use Rattle.node.specs.Kinds.{rule_of}
 use Rattle.node.specs.Node.{is_leaf_of, standing}
@@ -16,17 +17,14 @@ use Rattle.evaluate.proofs.+eval.Goals as goal
 use Rattle.evaluate.proofs.+eval.Goals.{then-is_leaf, else-is_leaf, then-is_leaf-2, else-is_leaf-2, then-is_leaf-3, else-is_leaf-3, then-operands-ne1+else-operands-eq3, else-operands-ne1}
 
 -- an operand without operands of its own, and one with: the part of the store that is handed on is all of it
-leaf_stands : {l : ℕ} {frame : List (List ℕ)} {st held s : List ℕ} {place : ℕ} {b : Bool} → held ≡ st → Readable l frame (length st) s place → b ≡ is_leaf_of (standing s place) → b ≡ true → LeafStands frame (length held) s place
+leaf_stands : {l : ℕ} {frame : Frame} {st held s : List ℕ} {place : ℕ} {b : Bool} → held ≡ st → Readable l frame (length st) s place → b ≡ is_leaf_of (standing s place) → b ≡ true → LeafStands frame (length held) s place
 leaf_stands {l} e x is h = record { levels = l; readable = readable_on e x; leaf = sym is ∙ h }
 
-operator_stands : {l : ℕ} {frame : List (List ℕ)} {st held s : List ℕ} {place : ℕ} {b : Bool} → held ≡ st → Readable l frame (length st) s place → b ≡ is_leaf_of (standing s place) → b ≡ false → OperatorStands l frame (length held) s place
+operator_stands : {l : ℕ} {frame : Frame} {st held s : List ℕ} {place : ℕ} {b : Bool} → held ≡ st → Readable l frame (length st) s place → b ≡ is_leaf_of (standing s place) → b ≡ false → OperatorStands l frame (length held) s place
 operator_stands e x is h = record { readable = readable_on e x; operator = sym is ∙ h }
 
-pub lent-requires : goal.lent-requires
-lent-requires t c = c.requires.1.readable.turn.framed.laid.shape
-
 pub slice_bounds-held-end : goal.slice_bounds-held-end
-slice_bounds-held-end t c = omega (arith, c.lent.ensures, c.requires.1.readable.turn.lent)
+slice_bounds-held-end t c = omega (arith, c.requires.1.readable.turn.lent, ap length (all_lent c.args.store.now c.requires.1.readable.turn.lent))
 
 pub bounds-bytes-at : goal.bounds-bytes-at
 bounds-bytes-at t c = (standing_at c.requires.1.readable).inside
@@ -53,19 +51,19 @@ is_leaf-requires t c =
 
 pub leaf-one-requires : goal.leaf-one-requires
 leaf-one-requires t c =
-    let held = all_lent c.args.store.now (c.lent.ensures ∙ c.requires.1.readable.turn.lent) in
+    let held = all_lent c.args.store.now c.requires.1.readable.turn.lent in
     let here = first_readable c.args.store.now c.requires.1.readable c.requires.1.operator in
     leaf_stands held here c.is_leaf.ensures c.if-is_leaf.true
 
 pub eval-one-requires : goal.eval-one-requires
 eval-one-requires t c =
-    let held = all_lent c.args.store.now (c.lent.ensures ∙ c.requires.1.readable.turn.lent) in
+    let held = all_lent c.args.store.now c.requires.1.readable.turn.lent in
     let here = first_readable c.args.store.now c.requires.1.readable c.requires.1.operator in
     (omega (arith, (standing_at c.requires.1.readable).level, c.decreases), (c.requires.0, operator_stands held here c.is_leaf.ensures c.if-is_leaf.false))
 
 pub is_leaf-requires-then-operands-ne1 : goal.is_leaf-requires-then-operands-ne1
 is_leaf-requires-then-operands-ne1 t c =
-    let held = all_lent c.args.store.now (c.lent.ensures ∙ c.requires.1.readable.turn.lent) in
+    let held = all_lent c.args.store.now c.requires.1.readable.turn.lent in
     let operands : c.operands_of-operands.result ≡ (rule_of (get_or c.args.bytes.now c.args.at 0)).operands = rw c.from.ensures at c.operands_of-operands.ensures in
     let first : Evaluates (c.args.levels - 1) c.args.frame.now c.args.store.now c.args.bytes.now (c.args.at + 1) c.if-is_leaf.one = elim c.if-is_leaf.branch [
       | then-is_leaf y ↦ evaluates_on (c.args.levels - 1) c.args.frame.now c.args.store.now c.args.bytes.now (c.args.at + 1) held y.one-is (y.leaf-one.ensures (c.args.levels - 1))
@@ -77,7 +75,7 @@ is_leaf-requires-then-operands-ne1 t c =
 
 pub leaf-two-requires : goal.leaf-two-requires
 leaf-two-requires t c =
-    let held = all_lent c.args.store.now (c.lent.ensures ∙ c.requires.1.readable.turn.lent) in
+    let held = all_lent c.args.store.now c.requires.1.readable.turn.lent in
     let operands : c.operands_of-operands.result ≡ (rule_of (get_or c.args.bytes.now c.args.at 0)).operands = rw c.from.ensures at c.operands_of-operands.ensures in
     let first : Evaluates (c.args.levels - 1) c.args.frame.now c.args.store.now c.args.bytes.now (c.args.at + 1) c.if-is_leaf.one = elim c.if-is_leaf.branch [
       | then-is_leaf y ↦ evaluates_on (c.args.levels - 1) c.args.frame.now c.args.store.now c.args.bytes.now (c.args.at + 1) held y.one-is (y.leaf-one.ensures (c.args.levels - 1))
@@ -89,7 +87,7 @@ leaf-two-requires t c =
 
 pub eval-two-requires : goal.eval-two-requires
 eval-two-requires t c =
-    let held = all_lent c.args.store.now (c.lent.ensures ∙ c.requires.1.readable.turn.lent) in
+    let held = all_lent c.args.store.now c.requires.1.readable.turn.lent in
     let operands : c.operands_of-operands.result ≡ (rule_of (get_or c.args.bytes.now c.args.at 0)).operands = rw c.from.ensures at c.operands_of-operands.ensures in
     let first : Evaluates (c.args.levels - 1) c.args.frame.now c.args.store.now c.args.bytes.now (c.args.at + 1) c.if-is_leaf.one = elim c.if-is_leaf.branch [
       | then-is_leaf y ↦ evaluates_on (c.args.levels - 1) c.args.frame.now c.args.store.now c.args.bytes.now (c.args.at + 1) held y.one-is (y.leaf-one.ensures (c.args.levels - 1))
@@ -101,7 +99,7 @@ eval-two-requires t c =
 
 pub is_leaf-requires-then-operands-eq3 : goal.is_leaf-requires-then-operands-eq3
 is_leaf-requires-then-operands-eq3 t c =
-    let held = all_lent c.args.store.now (c.lent.ensures ∙ c.requires.1.readable.turn.lent) in
+    let held = all_lent c.args.store.now c.requires.1.readable.turn.lent in
     let operands : c.operands_of-operands.result ≡ (rule_of (get_or c.args.bytes.now c.args.at 0)).operands = rw c.from.ensures at c.operands_of-operands.ensures in
     let first : Evaluates (c.args.levels - 1) c.args.frame.now c.args.store.now c.args.bytes.now (c.args.at + 1) c.if-is_leaf.one = elim c.if-is_leaf.branch [
       | then-is_leaf y ↦ evaluates_on (c.args.levels - 1) c.args.frame.now c.args.store.now c.args.bytes.now (c.args.at + 1) held y.one-is (y.leaf-one.ensures (c.args.levels - 1))
@@ -118,7 +116,7 @@ is_leaf-requires-then-operands-eq3 t c =
 
 pub leaf-three-requires : goal.leaf-three-requires
 leaf-three-requires t c =
-    let held = all_lent c.args.store.now (c.lent.ensures ∙ c.requires.1.readable.turn.lent) in
+    let held = all_lent c.args.store.now c.requires.1.readable.turn.lent in
     let operands : c.operands_of-operands.result ≡ (rule_of (get_or c.args.bytes.now c.args.at 0)).operands = rw c.from.ensures at c.operands_of-operands.ensures in
     let first : Evaluates (c.args.levels - 1) c.args.frame.now c.args.store.now c.args.bytes.now (c.args.at + 1) c.if-is_leaf.one = elim c.if-is_leaf.branch [
       | then-is_leaf y ↦ evaluates_on (c.args.levels - 1) c.args.frame.now c.args.store.now c.args.bytes.now (c.args.at + 1) held y.one-is (y.leaf-one.ensures (c.args.levels - 1))
@@ -135,7 +133,7 @@ leaf-three-requires t c =
 
 pub eval-three-requires : goal.eval-three-requires
 eval-three-requires t c =
-    let held = all_lent c.args.store.now (c.lent.ensures ∙ c.requires.1.readable.turn.lent) in
+    let held = all_lent c.args.store.now c.requires.1.readable.turn.lent in
     let operands : c.operands_of-operands.result ≡ (rule_of (get_or c.args.bytes.now c.args.at 0)).operands = rw c.from.ensures at c.operands_of-operands.ensures in
     let first : Evaluates (c.args.levels - 1) c.args.frame.now c.args.store.now c.args.bytes.now (c.args.at + 1) c.if-is_leaf.one = elim c.if-is_leaf.branch [
       | then-is_leaf y ↦ evaluates_on (c.args.levels - 1) c.args.frame.now c.args.store.now c.args.bytes.now (c.args.at + 1) held y.one-is (y.leaf-one.ensures (c.args.levels - 1))
@@ -152,7 +150,7 @@ eval-three-requires t c =
 
 pub returns-then-operands-eq3 : goal.returns-then-operands-eq3
 returns-then-operands-eq3 t c =
-    let held = all_lent c.args.store.now (c.lent.ensures ∙ c.requires.1.readable.turn.lent) in
+    let held = all_lent c.args.store.now c.requires.1.readable.turn.lent in
     let operands : c.operands_of-operands.result ≡ (rule_of (get_or c.args.bytes.now c.args.at 0)).operands = rw c.from.ensures at c.operands_of-operands.ensures in
     let first : Evaluates (c.args.levels - 1) c.args.frame.now c.args.store.now c.args.bytes.now (c.args.at + 1) c.if-is_leaf.one = elim c.if-is_leaf.branch [
       | then-is_leaf y ↦ evaluates_on (c.args.levels - 1) c.args.frame.now c.args.store.now c.args.bytes.now (c.args.at + 1) held y.one-is (y.leaf-one.ensures (c.args.levels - 1))
@@ -172,7 +170,7 @@ returns-then-operands-eq3 t c =
 
 pub returns : goal.returns
 returns t c =
-    let held = all_lent c.args.store.now (c.lent.ensures ∙ c.requires.1.readable.turn.lent) in
+    let held = all_lent c.args.store.now c.requires.1.readable.turn.lent in
     let operands : c.operands_of-operands.result ≡ (rule_of (get_or c.args.bytes.now c.args.at 0)).operands = rw c.from.ensures at c.operands_of-operands.ensures in
     let first : Evaluates (c.args.levels - 1) c.args.frame.now c.args.store.now c.args.bytes.now (c.args.at + 1) c.if-is_leaf.one = elim c.if-is_leaf.branch [
       | then-is_leaf y ↦ evaluates_on (c.args.levels - 1) c.args.frame.now c.args.store.now c.args.bytes.now (c.args.at + 1) held y.one-is (y.leaf-one.ensures (c.args.levels - 1))
