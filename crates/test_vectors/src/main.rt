@@ -18,10 +18,11 @@ const FLAG_LINE: usize = 20;
 // More bytes than a file has.
 const TEXT_MOST: usize = 163840;
 
-// An operator, and the bytes of a line in its file.
+// An operator, its file, and the bytes of a line there.
 #[derive(Clone, Copy)]
-struct Operator<'a> {
-    name: &'a str,
+struct Operator {
+    path: &'static str,
+    name: &'static str,
     kind: u8,
     line: usize,
     ghost some: { 1 ≤ line },
@@ -35,31 +36,49 @@ struct Vector {
     result: u32,
 }
 
-fn main(rt: HostRuntime) -> io::Result<()> {
-    run(&rt, "f32_add.txt", level("add", 0x2b))?;
-    run(&rt, "f32_sub.txt", level("sub", 0x2c))?;
-    run(&rt, "f32_mul.txt", level("mul", 0x2d))?;
-    run(&rt, "f32_div.txt", level("div", 0x2e))?;
-    let less = Operator {
+const OPERATORS: [Operator; 5] = [
+    Operator {
+        path: "f32_add.txt",
+        name: "add",
+        kind: 0x2b,
+        line: LEVEL_LINE,
+    },
+    Operator {
+        path: "f32_sub.txt",
+        name: "sub",
+        kind: 0x2c,
+        line: LEVEL_LINE,
+    },
+    Operator {
+        path: "f32_mul.txt",
+        name: "mul",
+        kind: 0x2d,
+        line: LEVEL_LINE,
+    },
+    Operator {
+        path: "f32_div.txt",
+        name: "div",
+        kind: 0x2e,
+        line: LEVEL_LINE,
+    },
+    Operator {
+        path: "f32_lt_quiet.txt",
         name: "less",
         kind: 0x2f,
         line: FLAG_LINE,
-    };
-    run(&rt, "f32_lt_quiet.txt", less)
-}
+    },
+];
 
-// An operator that gives a level.
-fn level(name: &str, kind: u8) -> Operator<'_> {
-    Operator {
-        name,
-        kind,
-        line: LEVEL_LINE,
+fn main(rt: HostRuntime) -> io::Result<()> {
+    for operator in OPERATORS {
+        run(&rt, operator)?;
     }
+    Ok(())
 }
 
-fn run(rt: &(impl Files + Print), path: &str, operator: Operator) -> io::Result<()> {
+fn run(rt: &(impl Files + Print), operator: Operator) -> io::Result<()> {
     let name = operator.name;
-    let Ok(mut file) = fs::open(rt, path) else {
+    let Ok(mut file) = fs::open(rt, operator.path) else {
         return println!(rt; "{name} has no file");
     };
     let mut text = [0; TEXT_MOST];
@@ -103,7 +122,7 @@ fn say_line(rt: &impl Print, operator: Operator, line: &[u8]) -> io::Result<()> 
 
 // How many lines of a text agree.
 fn count_agreed(operator: Operator, text: &[u8]) -> usize
-    ensures { result ≡ agreed_of operator.entry.kind operator.entry.line text.now (length text.now / operator.entry.line) }
+    ensures { result ≡ agreed_of operator.kind operator.line text.now (length text.now / operator.line) }
 {
     text.chunks_exact(operator.line)
         .filter(|line| agrees(operator.kind, line))
