@@ -7,7 +7,7 @@ ghost use Rattle.limits.specs.Limits.{most_streams, most_pairs};
 ghost use Rattle.basis.specs.Rows.{column};
 ghost use Rattle.expression.specs.Seen.{seen_entries};
 ghost use Rattle.square.specs.Square.{cell, rise_best};
-ghost use Rattle.announce.specs.Announced.{announced, refusal};
+ghost use Rattle.announce.specs.Announced.{announced, refusal, checked_as};
 ghost use Rattle.announce.specs.Conditions.{Answers};
 ghost use Rattle.announce.specs.Rows.{RowPut, Weighs, Scanned, Fitting, numbers_for};
 
@@ -176,6 +176,7 @@ pub struct Announced {
 
 // The check of a table.
 pub fn check_table(table: &[u8]) -> Result<Announced, Refusal>
+    ensures { checked_as result ≡ announced table.now }
 {
     let scan = table::scan_table(table)?;
     weigh_scan(table, scan)

@@ -2,7 +2,7 @@
 -- Assumes nothing.
 use mathlib.Core.Path.{sym, ◌∙◌}
 use Rattle.monitor.proofs.Refusals.{drain_10, drain_11, drain_12, drain_16, drain_0}
-use Rattle.monitor.proofs.Run.drain_fault.Goals as goal
+use Rattle.monitor.proofs.Run.test_drain.Goals as goal
 
 pub returns-then-lent-prepared : goal.returns-then-lent-prepared
 returns-then-lent-prepared c = c.fault_of.ensures ∙ drain_11 _ _ _ _ _ _ (sym c.record_agrees.ensures ∙ c.if-record_agrees.true) c.if-lent-prepared.true

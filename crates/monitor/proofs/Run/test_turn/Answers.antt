@@ -1,6 +1,6 @@
 -- `turn_fault`: a closing turn's tests, or a row's.
 -- Assumes nothing.
-use Rattle.monitor.proofs.Run.turn_fault.Goals as goal
+use Rattle.monitor.proofs.Run.test_turn.Goals as goal
 
 pub returns-then-drains : goal.returns-then-drains
 returns-then-drains c = rw c.if-drains.true c.drain_fault.ensures

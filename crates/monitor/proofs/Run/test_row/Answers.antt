@@ -2,7 +2,7 @@
 -- Assumes nothing.
 use mathlib.Core.Path.{sym, ◌∙◌}
 use Rattle.monitor.proofs.Refusals.{row_10, row_11, row_12, row_13, row_14, row_15, row_16, row_0}
-use Rattle.monitor.proofs.Run.row_fault.Goals as goal
+use Rattle.monitor.proofs.Run.test_row.Goals as goal
 
 pub returns-then-lent-prepared : goal.returns-then-lent-prepared
 returns-then-lent-prepared c = c.fault_of.ensures ∙ row_11 _ _ _ _ _ _ _ _ _ _ (sym c.record_agrees.ensures ∙ c.if-record_agrees.true) c.if-lent-prepared.true
