@@ -35,14 +35,11 @@ pub fn prepare(
     ensures { Preparing result table.now look.now kept.now types.new roles.new starts.new order.new }
 {
     let found = vouch::vouch(table, kinds, look, kept, types, roles, starts, order)?;
-    let inputs = found.inputs;
-    let streams = found.streams;
-    let words = found.words;
-    let room = records::room_of(streams - inputs, found.triggers);
+    let room = records::room_of(found.streams - found.inputs, found.triggers);
     Some(Prepared {
-        inputs,
-        streams,
-        words,
+        inputs: found.inputs,
+        streams: found.streams,
+        words: found.words,
         room,
         closing: found.closing,
     })
