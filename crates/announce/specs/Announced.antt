@@ -1,14 +1,17 @@
 -- What the check announces of a table's bytes, as it is computed (document 01, "What the check announces" and "Refusal numbers").
 -- `Conditions` says the same in the document's words. Assumes nothing.
-use Rattle.std.specs.Prelude.{ℕ, cond, List, leb, ltb, length, get_or, replicate}
+use Rattle.std.specs.Prelude.{ℕ, cond, List, leb, ltb, length, get_or, replicate, Result, Ok, Err}
 use Rattle.limits.specs.Limits.{most_streams, most_words}
 use Rattle.limits.specs.Refusals.{accepted, wrong_loop, over_words}
+use Rattle.limits.specs.declared.Refusal.{Refusal}
+use Rattle.limits.specs.Faults.{number_for}
 use Rattle.basis.specs.Sums.{total, most}
 use Rattle.records.specs.Kinds.{room_for}
 use Rattle.table.specs.Table.{Table, Decoded, decoded, refused, decode, streams, edges}
 use Rattle.walks.specs.Longest.{Best, square_for, through, look_of, loops_below_of, place_of, kept_from}
 use Rattle.basis.specs.Firsts.{firsts}
 use Rattle.announce.specs.declared.Checked.{Checked}
+use Rattle.announce.specs.declared.Announced.{Announced}
 
 -- "The longest walks between all pairs of streams"
 abbrev pub longest : Table → ℕ → ℕ → Best
@@ -63,3 +66,8 @@ after_scan (refused n p) = refusal n p
 
 unfoldable pub announced : List ℕ → Checked
 announced s = after_scan (decode s)
+
+-- what the check of a table answers, by document 01's numbers: "An accepted call answers number 0 and place 0."
+abbrev pub checked_as : Result Announced Refusal → Checked
+checked_as (Ok a) = record { number = accepted; place = 0; look = a.look; kept = a.kept; words = a.words; room = a.room; closing = a.closing }
+checked_as (Err r) = refusal (number_for r.fault) r.place

@@ -1,7 +1,8 @@
 -- Document 01's number of each fault that the code names. Assumes nothing.
-use Rattle.std.specs.Prelude.{ℕ, ◌≡◌}
+use Rattle.std.specs.Prelude.{ℕ, ◌≡◌, Result, Ok, Err}
 use Rattle.limits.specs.Refusals.{table_length, missing, wrong_kind, wrong_field, wrong_type, too_deep, wrong_loop, over_words, bytes_after, foreign_record, short_store, wrong_phase, row_limit, row_length_of, wrong_flag, short_output}
 use Rattle.limits.specs.declared.Fault.{Fault}
+use Rattle.limits.specs.declared.Refusal.{Refusal}
 use Rattle.limits.specs.declared.Fault.TheVariants.{TableLength, Missing, WrongKind, WrongField, WrongType, TooDeep, WrongLoop, OverWords, BytesAfter, ForeignRecord, ShortStore, WrongPhase, RowLimit, RowLength, WrongFlag, ShortOutput}
 
 abbrev pub number_for : Fault → ℕ
@@ -25,3 +26,12 @@ number_for ShortOutput = short_output
 -- what the conversion of a fault into a byte gives
 abbrev pub Numbers : Fault → ℕ → Type 0
 Numbers f n = n ≡ number_for f
+
+-- A definition gives the number of a fault, 0 where there is none: what a test answers that looks for it.
+abbrev pub Tested : Result (Unit {0}) Fault → ℕ → Type 0
+Tested (Ok _) n = n ≡ 0
+Tested (Err f) n = n ≡ number_for f
+
+-- a refusal of this number at this place
+abbrev pub Refuses : Refusal → (why place : ℕ) → Type 0
+Refuses r why place = (why ≡ number_for r.fault) × (place ≡ r.place)

@@ -2,6 +2,7 @@
 // include/glasspuddle.h says it for C and Rust, and tests/numbers.sh compares the three. It assumes nothing.
 #![tactic(auto)]
 
+ghost use Rattle.std.specs.Prelude.{◌≡◌};
 ghost use Rattle.limits.specs.Faults.{Numbers};
 
 // "table 1 to 4,096 bytes"
@@ -94,7 +95,10 @@ pub struct Refusal {
 }
 
 impl Fault {
-    pub fn at(self, place: usize) -> Refusal {
+    // The refusal with this fault at a place.
+    pub fn at(self, place: usize) -> Refusal
+        ensures { result ≡ record { fault = self; place = place } }
+    {
         Refusal { fault: self, place }
     }
 }

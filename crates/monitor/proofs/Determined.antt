@@ -4,8 +4,7 @@ use Prim.Native.Nat.{ℕ}
 use mathlib.Core.Path.{◌≡◌, sym, ◌∙◌}
 use mathlib.Core.List.{List}
 use Rattle.monitor.specs.declared.Run.{Run}
-use Rattle.monitor.specs.declared.Answer.{Answer}
-use Rattle.monitor.specs.Calls.{After, open_call, row_call_of, close_call, drain_call_of, Leaves, Opens}
+use Rattle.monitor.specs.Calls.{Answer, After, open_call, row_call_of, close_call, drain_call_of, Leaves, Opens}
 
 -- two results of a call that are one
 pub record Same (a b : Answer) (st1 st2 out1 out2 : List ℕ) : Type 0 where

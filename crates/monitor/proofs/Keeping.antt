@@ -7,8 +7,7 @@ use lib.Dec.{eqb}
 use lib.ListN.{length}
 use Rattle.basis.proofs.Tests.{pick_case}
 use Rattle.monitor.specs.declared.Run.{Run}
-use Rattle.monitor.specs.declared.Fault.{Fault}
-use Rattle.monitor.specs.Refusals.{row_fault_of, close_fault_of, drain_fault_of}
+use Rattle.monitor.specs.Refusals.{Fault, row_fault_of, close_fault_of, drain_fault_of}
 use Rattle.monitor.specs.Calls.{After, unless, refusal, row_call_of, close_call, drain_call_of}
 
 -- after a call on the run r

@@ -15,13 +15,14 @@ use Rattle.table.specs.Table.{Decoded}
 use Rattle.announce.specs.declared.Checked.{Checked}
 use Rattle.announce.specs.Announced.{announced}
 use Rattle.prepare.specs.PlanFor.{table_in, table_for, first_bad_of}
-use Rattle.prepare.specs.Preparing.{Brief, Prepares, Preparing}
+use Rattle.prepare.specs.Preparing.{Brief, Prepares}
 use Rattle.prepare.proofs.Held.{types_held}
 use Rattle.monitor.specs.declared.Phase.{Phase}
 use Rattle.monitor.specs.declared.Phase.TheVariants.{Reading, Draining, Over}
 use Rattle.monitor.specs.declared.Run.{Run}
-use Rattle.monitor.specs.declared.Fault.{Fault}
-use Rattle.monitor.specs.Refusals.{fault, fine, refuse_if, after_table, eqbs, phase_agrees, record_agrees_of, of_table_of, is_reading_of, is_draining_of, open_fault, close_refusal, close_fault_of, row_refusal, row_fault_of, drain_refusal, drain_fault_of, turn_fault_of}
+use Rattle.monitor.specs.declared.Turn.{Turn}
+use Rattle.monitor.specs.declared.Turn.TheVariants.{Row, Closing}
+use Rattle.monitor.specs.Refusals.{Fault, fault, fine, refuse_if, after_table, eqbs, phase_agrees, record_agrees_of, of_table_of, is_reading_of, is_draining_of, open_fault, close_refusal, close_fault_of, row_refusal, row_fault_of, drain_refusal, drain_fault_of, turn_fault_of}
 
 -- ---- the table and the record's numbers
 
@@ -67,12 +68,6 @@ module _ (s : List ℕ) where
         go false h = refl
         go true h = sym (ap f (not_of_table (eqb-true _ _ h)) ∙ e)
 
-pub not_prepared : {b : Bool} (s : List ℕ) (r : Run) (p : Brief) → b ≡ false → Preparing b s r.look r.kept p → (announced s).number ≡ 0 → (announced s).look ≡ r.look → (announced s).kept ≡ r.kept → ⊥
-not_prepared s r p e h = subst (λ (b : Bool). Preparing b s r.look r.kept p) e h
-
-pub is_prepared : {b : Bool} (s : List ℕ) (r : Run) (p : Brief) → b ≡ true → Preparing b s r.look r.kept p → Prepares s r.look r.kept p
-is_prepared s r p e h = subst (λ (b : Bool). Preparing b s r.look r.kept p) e h
-
 first_bad_same : (ts us ws : List ℕ) → ((v : ℕ) → get_or ts v 0 ≡ get_or us v 0) → (k x : ℕ) → first_bad_of ts ws k x ≡ first_bad_of us ws k x
 unfolding first_bad_of
 first_bad_same ts us ws h zero x = refl
@@ -82,10 +77,9 @@ first_bad_same ts us ws h (suc k) x = λ i. cond (eqb (h x i) 0 && ltb 1 (get_or
 abbrev agrees_by : Run → Brief → Bool
 agrees_by r p = record_agrees_of r.phase r.rows r.done p.closing
 
-abbrev pub turn_by_of : Bool → Run → Brief → (lent : ℕ) (ws : List ℕ) (space : ℕ) → Fault
-turn_by_of drains r p lent ws space =
-    cond drains (drain_refusal (agrees_by r p) r.phase p.words p.room lent space)
-    (row_refusal (agrees_by r p) r.phase r.rows p.words p.room p.inputs (first_bad_of p.types ws p.inputs 0) lent (length ws) space)
+abbrev pub turn_by_of : Turn → Run → Brief → (lent : ℕ) (ws : List ℕ) (space : ℕ) → Fault
+turn_by_of Row r p lent ws space = row_refusal (agrees_by r p) r.phase r.rows p.words p.room p.inputs (first_bad_of p.types ws p.inputs 0) lent (length ws) space
+turn_by_of Closing r p lent ws space = drain_refusal (agrees_by r p) r.phase p.words p.room lent space
 
 module _ {s : List ℕ} (r : Run) {p : Brief} (x : Prepares s r.look r.kept p) where
   of_table : of_table_of r (announced s) ≡ agrees_by r p
@@ -115,9 +109,9 @@ module _ {s : List ℕ} (r : Run) {p : Brief} (x : Prepares s r.look r.kept p) w
       table_passed s _ x.accepted
       ∙ (λ i. row_refusal (of_table i) r.phase r.rows (sym x.words_are i) (sym x.room_is i) (inputs_same i) (bad_same ws i) lent (length ws) space)
 
-  pub turn_prepared : (drains : Bool) (lent : ℕ) (ws : List ℕ) (space : ℕ) → turn_fault_of drains s r lent ws space ≡ turn_by_of drains r p lent ws space
-  turn_prepared true lent ws space = drain_prepared lent space
-  turn_prepared false lent ws space = row_prepared lent ws space
+  pub turn_prepared : (k : Turn) (lent : ℕ) (ws : List ℕ) (space : ℕ) → turn_fault_of k s r lent ws space ≡ turn_by_of k r p lent ws space
+  turn_prepared Row lent ws space = row_prepared lent ws space
+  turn_prepared Closing lent ws space = drain_prepared lent space
 
 -- ---- the table's own refusal, and opening
 
@@ -346,9 +340,9 @@ module _ (s : List ℕ) (r : Run) (no : (announced s).number ≡ 0 → (announce
       let c = announced s in
       foreign_refused s r no (λ b. drain_refusal b r.phase c.words c.room lent space) (sym (drain_10 false _ _ _ _ _ refl))
 
-  pub foreign_turn : (drains : Bool) (lent : ℕ) (ws : List ℕ) (space : ℕ) → after_table s (fault foreign_record 0) ≡ turn_fault_of drains s r lent ws space
-  foreign_turn true lent ws space = foreign_drain lent space
-  foreign_turn false lent ws space = foreign_row lent ws space
+  pub foreign_turn : (k : Turn) (lent : ℕ) (ws : List ℕ) (space : ℕ) → after_table s (fault foreign_record 0) ≡ turn_fault_of k s r lent ws space
+  foreign_turn Row lent ws space = foreign_row lent ws space
+  foreign_turn Closing lent ws space = foreign_drain lent space
 
   pub foreign_close : after_table s (fault foreign_record 0) ≡ close_fault_of s r
   foreign_close = foreign_refused s r no (λ b. close_refusal b r.phase) (sym (close_10 false _ refl))

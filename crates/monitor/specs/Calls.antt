@@ -1,8 +1,9 @@
 -- What each call leaves, for every argument (document 01, "A run" and "Refusal numbers"): its answer, the store, the output.
 -- Assumes nothing.
-use Rattle.std.specs.Prelude.{ℕ, ◌+◌, ◌≡◌, cond, List, [], ◌++◌, eqb, ltb, length, drop, replicate}
+use Rattle.std.specs.Prelude.{ℕ, ◌+◌, ◌≡◌, cond, List, [], ◌++◌, eqb, ltb, length, drop, replicate, Result, Ok, Err}
 use Rattle.limits.specs.Limits.{most_streams}
 use Rattle.limits.specs.Refusals.{accepted}
+use Rattle.limits.specs.declared.Refusal.{Refusal}
 use Rattle.run.specs.Run.{store_after}
 use Rattle.output.specs.Encoding.{overwritten}
 use Rattle.announce.specs.Announced.{announced}
@@ -10,10 +11,16 @@ use Rattle.prepare.specs.PlanFor.{plan_for}
 use Rattle.monitor.specs.declared.Run.{Run}
 use Rattle.monitor.specs.declared.Phase.{Phase}
 use Rattle.monitor.specs.declared.Phase.TheVariants.{Reading, Draining, Over}
-use Rattle.monitor.specs.declared.Answer.{Answer}
-use Rattle.monitor.specs.declared.Fault.{Fault}
+use Rattle.monitor.specs.declared.Answer as code
 use Rattle.monitor.specs.Turns.{bytes_on}
-use Rattle.monitor.specs.Refusals.{open_fault, row_fault_of, close_fault_of, drain_fault_of}
+use Rattle.monitor.specs.Refusals.{Fault, told, open_fault, row_fault_of, close_fault_of, drain_fault_of}
+
+-- what a call answers, by document 01's numbers: the record, the number and the place of a refusal or 0 and 0, and the bytes written
+pub record Answer : Type 0 where
+  pub run : Run
+  pub number : ℕ
+  pub place : ℕ
+  pub count : ℕ
 
 pub record After : Type 0 where
   pub answer : Answer
@@ -41,6 +48,14 @@ accepted_with r count = record { run = r; number = accepted; place = 0; count = 
 
 abbrev pub acceptance : Run → (st : List ℕ) (bytes out : List ℕ) → After
 acceptance r st bytes out = record { answer = accepted_with r (length bytes); store = st; output = overwritten bytes out }
+
+-- what a call hands back, by document 01's numbers
+abbrev pub with_outcome : Run → Result ℕ Refusal → Answer
+with_outcome r (Ok count) = accepted_with r count
+with_outcome r (Err e) = refused_with r (told e)
+
+abbrev pub answered : code.Answer → Answer
+answered a = with_outcome a.run a.outcome
 
 -- the call's answer: its first fault, if there is one
 abbrev pub unless : Fault → (refused accepted : After) → After

@@ -1,3 +1,4 @@
+pub mod Phases
 pub mod Refusals
 pub mod Turns
 pub mod Calls

@@ -1,8 +1,10 @@
 -- The first fault of each call, in document 01's order ("Refusal numbers"); number 0 where there is none.
 -- Assumes nothing.
-use Rattle.std.specs.Prelude.{ℕ, Bool, true, false, cond, not, ◌&&◌, List, [], ◌∷◌, eqb, ltb, leb, length}
+use Rattle.std.specs.Prelude.{ℕ, Bool, true, false, cond, not, ◌&&◌, List, [], ◌∷◌, eqb, ltb, leb, length, Result, Ok, Err}
 use Rattle.limits.specs.Limits.{most_rows}
 use Rattle.limits.specs.Refusals.{accepted, foreign_record, short_store, wrong_phase, row_limit, row_length_of, wrong_flag, short_output}
+use Rattle.limits.specs.declared.Refusal.{Refusal}
+use Rattle.limits.specs.Faults.{number_for}
 use Rattle.announce.specs.declared.Checked.{Checked}
 use Rattle.announce.specs.Announced.{announced}
 use Rattle.prepare.specs.declared.Prepared.{Prepared}
@@ -10,7 +12,13 @@ use Rattle.prepare.specs.PlanFor.{table_for, first_bad_of}
 use Rattle.monitor.specs.declared.Phase.{Phase}
 use Rattle.monitor.specs.declared.Phase.TheVariants.{Reading, Draining, Over}
 use Rattle.monitor.specs.declared.Run.{Run}
-use Rattle.monitor.specs.declared.Fault.{Fault}
+use Rattle.monitor.specs.declared.Turn.{Turn}
+use Rattle.monitor.specs.declared.Turn.TheVariants.{Row, Closing}
+
+-- the first fault of a call, by document 01's numbers; number 0 where there is none
+pub record Fault : Type 0 where
+  pub number : ℕ
+  pub place : ℕ
 
 abbrev pub fault : ℕ → ℕ → Fault
 fault n p = record { number = n; place = p }
@@ -18,6 +26,15 @@ fault n p = record { number = n; place = p }
 -- no fault
 abbrev pub fine : Fault
 fine = fault accepted 0
+
+-- a refusal of the code by document 01's numbers
+abbrev pub told : Refusal → Fault
+told r = fault (number_for r.fault) r.place
+
+-- the fault that a call's tests found, or none
+abbrev pub tested : {A : Type 0} → Result A Refusal → Fault
+tested (Ok x) = fine
+tested (Err r) = told r
 
 -- refusal n at place p where the test holds, else what comes after it
 abbrev pub refuse_if : Bool → (n p : ℕ) → Fault → Fault
@@ -110,9 +127,11 @@ row_tests_of r p types lent ws space =
 abbrev pub drain_tests_of : Run → Prepared → (lent space : ℕ) → Fault
 drain_tests_of r p lent space = drain_refusal (agrees_with r p) r.phase p.words p.room lent space
 
--- the first fault of a turn's call: of a closing turn, for which there is no row, or of a row
-abbrev pub turn_fault_of : (drains : Bool) (s : List ℕ) → Run → (lent : ℕ) (ws : List ℕ) (space : ℕ) → Fault
-turn_fault_of drains s r lent ws space = cond drains (drain_fault_of s r lent space) (row_fault_of s r lent ws space)
+-- the first fault of a turn's call: of a row, or of a closing turn, for which there is no row
+abbrev pub turn_fault_of : Turn → (s : List ℕ) → Run → (lent : ℕ) (ws : List ℕ) (space : ℕ) → Fault
+turn_fault_of Row s r lent ws space = row_fault_of s r lent ws space
+turn_fault_of Closing s r lent ws space = drain_fault_of s r lent space
 
-abbrev pub turn_tests : (drains : Bool) → Run → Prepared → (types : List ℕ) (lent : ℕ) (ws : List ℕ) (space : ℕ) → Fault
-turn_tests drains r p types lent ws space = cond drains (drain_tests_of r p lent space) (row_tests_of r p types lent ws space)
+abbrev pub turn_tests : Turn → Run → Prepared → (types : List ℕ) (lent : ℕ) (ws : List ℕ) (space : ℕ) → Fault
+turn_tests Row r p types lent ws space = row_tests_of r p types lent ws space
+turn_tests Closing r p types lent ws space = drain_tests_of r p lent space

@@ -1,7 +1,7 @@
 -- The bytes that a turn gives (document 01, "A run"), for every content of the store, and what a turn of a call needs and leaves; the
 -- store that it leaves is run's `store_after`. Assumes nothing.
-use Rattle.std.specs.Prelude.{ℕ, ◌+◌, ◌≤◌, ◌<◌, ◌^◌, ◌≡◌, Bool, cond, List, map, length}
-use Rattle.limits.specs.Refusals.{accepted}
+use Rattle.std.specs.Prelude.{ℕ, ◌+◌, ◌≤◌, ◌<◌, ◌^◌, ◌≡◌, List, map, length, Option, Result, Ok, Err}
+use Rattle.limits.specs.declared.Refusal.{Refusal}
 use Rattle.value.specs.declared.Value.{Value}
 use Rattle.value.specs.Values.{image_of}
 use Rattle.basis.specs.Given.{Given}
@@ -11,12 +11,13 @@ use Rattle.records.specs.Encoding.{encode}
 use Rattle.output.specs.Encoding.{Emitted}
 use Rattle.announce.specs.Announced.{announced}
 use Rattle.prepare.specs.declared.Prepared.{Prepared}
-use Rattle.prepare.specs.Preparing.{Brief, brief_by, Prepares, Preparing}
+use Rattle.prepare.specs.Preparing.{Brief, Prepares, Preparing}
 use Rattle.prepare.specs.PlanFor.{table_for, plan_for}
 use Rattle.monitor.specs.declared.Run.{Run}
-use Rattle.monitor.specs.declared.Fault.{Fault}
+use Rattle.monitor.specs.declared.Turn.{Turn}
+use Rattle.monitor.specs.declared.Turn.TheVariants.{Row, Closing}
 use Rattle.monitor.specs.declared.Taken.{Taken}
-use Rattle.monitor.specs.Refusals.{turn_fault_of}
+use Rattle.monitor.specs.Refusals.{fine, told, turn_fault_of}
 
 -- "store and output take its 32-bit image"
 abbrev pub in_words : Given Value → Given ℕ
@@ -51,28 +52,35 @@ pub record TurnReady (r : Run) (kinds : List (List ℕ)) (s look kept : List ℕ
   pub prepares : Prepares s r.look r.kept p
 
 -- the rows known in a turn: those taken before it, and a row call's own ("turn j, for the j-th accepted row, counted from 0")
-abbrev pub known_rows_of : (drains : Bool) (rows : ℕ) → ℕ
-known_rows_of drains rows = cond drains rows (rows + 1)
+abbrev pub known_rows_of : Turn → (rows : ℕ) → ℕ
+known_rows_of Row rows = rows + 1
+known_rows_of Closing rows = rows
 
 -- the number of the next turn: reading has 0 closing turns done, "draining calls are turns N, N+1 and so on"
 abbrev pub turn_of : Run → ℕ
 turn_of r = r.rows + r.done
 
-abbrev pub took_with : Fault → (count closing : ℕ) → Taken
-took_with f count closing = record { fault = f; count = count; closing = closing }
+-- the next turn done: no test refuses it, and x has its bytes and the closing turns announced
+pub record TurnDone (k : Turn) (s : List ℕ) (r : Run) (ws st out st1 out1 : List ℕ) (x : Taken) : Type 0 where
+  pub passes : turn_fault_of k s r (length st) ws (length out) ≡ fine
+  pub turned : Turned s (known_rows_of k r.rows) (turn_of r) ws st out st1 out1 x.count
+  pub closing_is : x.closing ≡ (announced s).closing
 
--- what came of the next turn: with a first fault "leaves store and output untouched", without one the turn done
-pub record Took (drains : Bool) (s : List ℕ) (r : Run) (ws st out st1 out1 : List ℕ) (x : Taken) : Type 0 where
-  pub fault_is : x.fault ≡ turn_fault_of drains s r (length st) ws (length out)
-  pub store_kept : (x.fault.number ≡ accepted → ⊥) → st1 ≡ st
-  pub output_kept : (x.fault.number ≡ accepted → ⊥) → out1 ≡ out
-  pub turned : x.fault.number ≡ accepted → Turned s (known_rows_of drains r.rows) (turn_of r) ws st out st1 out1 x.count
-  pub closing_is : x.fault.number ≡ accepted → x.closing ≡ (announced s).closing
+-- refused: the first fault, which "leaves store and output untouched"
+pub record TurnRefused (k : Turn) (s : List ℕ) (r : Run) (ws st out st1 out1 : List ℕ) (e : Refusal) : Type 0 where
+  pub fault_is : told e ≡ turn_fault_of k s r (length st) ws (length out)
+  pub store_kept : st1 ≡ st
+  pub output_kept : out1 ≡ out
 
--- sums of a brief by the record's numbers, whatever stands in the arrays that it was made in
-pub record Summed (s look kept : List ℕ) (r : Prepared) : Type 0 where
+-- what came of the next turn
+abbrev pub Took : Turn → (s : List ℕ) → Run → (ws st out st1 out1 : List ℕ) → Result Taken Refusal → Type 0
+Took k s r ws st out st1 out1 (Ok x) = TurnDone k s r ws st out st1 out1 x
+Took k s r ws st out st1 out1 (Err e) = TurnRefused k s r ws st out st1 out1 e
+
+-- sums by the record's numbers, whatever stands in the arrays that they were made in
+pub record Summed (s look kept : List ℕ) (r : Option Prepared) : Type 0 where
   pub types : List ℕ
   pub roles : List ℕ
   pub starts : List ℕ
   pub order : List ℕ
-  pub preparing : Preparing r.ok s look kept (brief_by r types roles starts order)
+  pub preparing : Preparing r s look kept types roles starts order

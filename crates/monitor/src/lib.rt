@@ -7,10 +7,11 @@ ghost use Rattle.limits.specs.Limits.{most_streams};
 ghost use Rattle.limits.specs.Refusals.{foreign_record};
 ghost use Rattle.prepare.specs.PlanFor.{first_bad_of};
 ghost use Rattle.prepare.specs.Preparing.{brief_by};
-ghost use Rattle.monitor.specs.Refusals.{fault, after_table, record_agrees_of, is_reading_of, is_draining_of};
-ghost use Rattle.monitor.specs.Refusals.{close_refusal, row_tests_of, drain_tests_of, turn_tests};
-ghost use Rattle.monitor.specs.Turns.{Turned, TurnFits, TurnReady, known_rows_of, took_with, Took, Summed};
-ghost use Rattle.monitor.specs.Calls.{run_with_of, accepted_with, refused_with, zero_run, closed_phase_of, drained_phase_of};
+ghost use Rattle.monitor.specs.Phases.{IsPhase, HasByte};
+ghost use Rattle.monitor.specs.Refusals.{fault, told, tested, after_table, record_agrees_of};
+ghost use Rattle.monitor.specs.Refusals.{row_tests_of, drain_tests_of, turn_tests};
+ghost use Rattle.monitor.specs.Turns.{Turned, TurnFits, TurnReady, known_rows_of, Took, Summed};
+ghost use Rattle.monitor.specs.Calls.{answered, zero_run, closed_phase_of, drained_phase_of};
 ghost use Rattle.monitor.specs.Calls.{open_call, row_call_of, close_call, drain_call_of, Leaves, Opens};
 
 use limits::{Fault, Refusal, STREAMS_MOST};
@@ -45,6 +46,14 @@ impl TryFrom<u8> for Phase {
     }
 }
 
+impl From<Phase> for u8 {
+    ghost from_gives = { HasByte };
+
+    fn from(phase: Phase) -> u8 {
+        phase as u8
+    }
+}
+
 // The record: "each stream's look-ahead and kept number (0 past S), the rows taken, the phase and closing turns done".
 #[derive(Clone, Copy)]
 pub struct Run {
@@ -60,6 +69,13 @@ pub struct Run {
 pub struct Answer {
     pub run: Run,
     pub outcome: Result<usize, Refusal>,
+}
+
+// Which turn a call takes: of a row, or one after the last row.
+#[derive(Clone, Copy)]
+enum Turn {
+    Row,
+    Closing,
 }
 
 // What came of a turn: the bytes written and the closing turns announced.
@@ -109,7 +125,7 @@ fn first_bad(row: &[u32], types: &[u8; STREAMS_MOST], inputs: usize) -> Option<u
 // Why a call is refused whose record has not the numbers of an accepted table of these bytes: the table's own fault, or "not a record of this
 // table".
 pub fn foreign(table: &[u8]) -> Refusal
-    ensures { result ≡ after_table table.now (fault foreign_record 0) }
+    ensures { told result ≡ after_table table.now (fault foreign_record 0) }
 {
     match announce::check_table(table) {
         Ok(_) => Fault::ForeignRecord.at(0),
@@ -172,7 +188,7 @@ fn opened(table: &[u8], store: &mut [u32]) -> Result<Run, Refusal> {
 
 // Opens a run. A refusal hands back an all-zero record.
 pub fn open(table: &[u8], store: &mut [u32]) -> Answer
-    ensures { Opens (open_call table.now store.old) result store.new }
+    ensures { Opens (open_call table.now store.old) (answered result) store.new }
 {
     match opened(table, store) {
         Ok(run) => Answer { run, outcome: Ok(0) },
@@ -203,11 +219,13 @@ fn drained_phase(done: u16, closing: u16) -> Phase
 }
 
 // The rows known in a turn: those taken before, and a row call's own.
-fn known_rows(drains: bool, rows: u32) -> u64
-    ensures { result ≡ known_rows_of drains rows }
+fn known_rows(turn: Turn, rows: u32) -> u64
+    ensures { result ≡ known_rows_of turn rows }
 {
-    let taken = u64::from(rows);
-    if drains { taken } else { taken + 1 }
+    match turn {
+        Turn::Row => u64::from(rows) + 1,
+        Turn::Closing => u64::from(rows),
+    }
 }
 
 impl Run {
@@ -230,7 +248,7 @@ impl Run {
         space: usize,
     ) -> Result<(), Refusal>
         requires { prepared.inputs ≤ most_streams }
-        ensures { result ≡ row_tests_of self prepared types.now lent row.now space }
+        ensures { tested result ≡ row_tests_of self prepared types.now lent row.now space }
     {
         self.test_record(prepared.closing)?;
         if lent < prepared.words {
@@ -256,7 +274,7 @@ impl Run {
 
     // "draining with 10, 11, 12, 16".
     fn test_drain(self, prepared: Prepared, lent: usize, space: usize) -> Result<(), Refusal>
-        ensures { result ≡ drain_tests_of self prepared lent space }
+        ensures { tested result ≡ drain_tests_of self prepared lent space }
     {
         self.test_record(prepared.closing)?;
         if lent < prepared.words {
@@ -274,7 +292,7 @@ impl Run {
     // The tests of a turn's call, by what is prepared: of a closing turn, or of a row.
     fn test_turn(
         self,
-        drains: bool,
+        turn: Turn,
         prepared: Prepared,
         types: &[u8; STREAMS_MOST],
         lent: usize,
@@ -282,19 +300,18 @@ impl Run {
         space: usize,
     ) -> Result<(), Refusal>
         requires { prepared.inputs ≤ most_streams }
-        ensures { result ≡ turn_tests drains self prepared types.now lent row.now space }
+        ensures { tested result ≡ turn_tests turn self prepared types.now lent row.now space }
     {
-        if drains {
-            self.test_drain(prepared, lent, space)
-        } else {
-            self.test_row(prepared, types, lent, row, space)
+        match turn {
+            Turn::Row => self.test_row(prepared, types, lent, row, space),
+            Turn::Closing => self.test_drain(prepared, lent, space),
         }
     }
 
     // A turn by what is prepared: its tests, then the store and the output.
     fn turn_by(
         self,
-        drains: bool,
+        turn: Turn,
         kinds: &[[u8; ENTRIES]; KINDS_MOST],
         prepared: Prepared,
         look: &[u16; STREAMS_MOST],
@@ -309,11 +326,11 @@ impl Run {
         out: &mut [u8],
     ) -> Result<Taken, Refusal>
         requires { TurnReady self kinds.now table.now look.now kept.now (brief_by prepared types.now roles.now starts.now order.now) }
-        ensures { Took drains table.now self row.now store.old out.old
+        ensures { Took turn table.now self row.now store.old out.old
             store.new out.new result }
     {
-        self.test_turn(drains, prepared, types, store.len(), row, out.len())?;
-        let known = known_rows(drains, self.rows);
+        self.test_turn(turn, prepared, types, store.len(), row, out.len())?;
+        let known = known_rows(turn, self.rows);
         let t = u64::from(self.rows) + u64::from(self.done);
         let count = turn_out(
             kinds, prepared, look, kept, types, roles, starts, order, table, store, row, out,
@@ -325,16 +342,16 @@ impl Run {
         })
     }
 
-    // The next turn, of a row or, where it drains, a closing one: "Every call tests the table first."
+    // The next turn, of a row or a closing one: "Every call tests the table first."
     fn take_turn(
         self,
-        drains: bool,
+        turn: Turn,
         table: &[u8],
         store: &mut [u32],
         row: &[u32],
         out: &mut [u8],
     ) -> Result<Taken, Refusal>
-        ensures { Took drains table.now self row.now store.old out.old
+        ensures { Took turn table.now self row.now store.old out.old
             store.new out.new result }
     {
         let look = self.look;
@@ -357,7 +374,7 @@ impl Run {
             return Err(foreign(table));
         };
         self.turn_by(
-            drains, &kinds, prepared, &look, &kept, &types, &roles, &starts, &order, table,
+            turn, &kinds, prepared, &look, &kept, &types, &roles, &starts, &order, table,
             store, row, out,
         )
     }
@@ -365,18 +382,18 @@ impl Run {
     // Takes a row: turn j for the j-th accepted row.
     pub fn row(self, table: &[u8], store: &mut [u32], row: &[u32], out: &mut [u8]) -> Answer
         ensures { Leaves (row_call_of table.now self row.now store.old out.old)
-            result store.new out.new }
+            (answered result) store.new out.new }
     {
-        match self.take_turn(false, table, store, row, out) {
+        match self.take_turn(Turn::Row, table, store, row, out) {
             Err(refusal) => Answer { run: self, outcome: Err(refusal) },
-            Ok(turn) => {
+            Ok(taken) => {
                 let run = Run {
                     rows: self.rows + 1,
                     phase: Phase::Reading,
                     done: 0,
                     ..self
                 };
-                Answer { run, outcome: Ok(turn.count) }
+                Answer { run, outcome: Ok(taken.count) }
             }
         }
     }
@@ -384,18 +401,18 @@ impl Run {
     // A closing turn: turns N, N+1 and so on.
     pub fn drain(self, table: &[u8], store: &mut [u32], out: &mut [u8]) -> Answer
         ensures { Leaves (drain_call_of table.now self store.old out.old)
-            result store.new out.new }
+            (answered result) store.new out.new }
     {
-        match self.take_turn(true, table, store, &[], out) {
+        match self.take_turn(Turn::Closing, table, store, &[], out) {
             Err(refusal) => Answer { run: self, outcome: Err(refusal) },
-            Ok(turn) => {
+            Ok(taken) => {
                 let done = self.done + 1;
                 let run = Run {
-                    phase: drained_phase(done, turn.closing),
+                    phase: drained_phase(done, taken.closing),
                     done,
                     ..self
                 };
-                Answer { run, outcome: Ok(turn.count) }
+                Answer { run, outcome: Ok(taken.count) }
             }
         }
     }
@@ -442,7 +459,7 @@ impl Run {
 
     // Closes the run: the rows taken are all there are.
     pub fn close(self, table: &[u8]) -> Answer
-        ensures { result ≡ (close_call table.now self).answer }
+        ensures { answered result ≡ (close_call table.now self).answer }
     {
         match self.closed(table) {
             Ok(run) => Answer { run, outcome: Ok(0) },

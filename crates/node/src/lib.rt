@@ -2,6 +2,7 @@
 #![tactic(auto)]
 
 ghost use Rattle.std.specs.Prelude.{◌≡◌, ◌+◌, ◌≤◌, ◌<◌, ◌^◌, length, get_or};
+ghost use Rattle.limits.specs.Faults.{number_for};
 ghost use Rattle.node.specs.Kinds.{rule_of, rest_of, many_kinds, results_for, Tabulated};
 ghost use Rattle.wire.specs.Bytes.{word_at};
 ghost use Rattle.node.specs.Node.{signed_of, node_of, is_leaf_of, leaf_body_of, standing, result_fault_of, deep_fault_of};
@@ -154,7 +155,8 @@ pub fn body_of(kinds: &[[u8; ENTRIES]; KINDS_MOST], kind: usize) -> usize
     requires { (kind < many_kinds) × Tabulated kinds.now }
     ensures { (result ≡ (rule_of kind).body) × (result < 256) }
 {
-    wire::byte_size(kinds[kind][BODY])
+    let body = kinds[kind][BODY];
+    usize::from(body)
 }
 
 pub fn operands_of(kinds: &[[u8; ENTRIES]; KINDS_MOST], kind: usize) -> u8
@@ -187,7 +189,7 @@ pub fn rest_type(operands: u8, first: u8, wanted: u8) -> u8
 
 // The fault of a kind that gives nothing of the wanted type: no expression has it, or it is of another type.
 pub fn result_fault(results: u8) -> Fault
-    ensures { result ≡ result_fault_of results }
+    ensures { number_for result ≡ result_fault_of results }
 {
     if results == NOTHING {
         Fault::WrongKind
@@ -199,12 +201,12 @@ pub fn result_fault(results: u8) -> Fault
 // The fault of whatever stands at `at`, one level too deep.
 pub fn deep_fault(table: &[u8], kinds: &[[u8; ENTRIES]; KINDS_MOST], at: usize) -> Fault
     requires { Tabulated kinds.now }
-    ensures { result ≡ deep_fault_of table.now at }
+    ensures { number_for result ≡ deep_fault_of table.now at }
 {
     if table.len() <= at {
         return Fault::Missing;
     }
-    let kind = wire::byte_size(table[at]);
+    let kind = usize::from(table[at]);
     if KINDS_MOST <= kind {
         return Fault::WrongKind;
     }
@@ -256,12 +258,7 @@ pub enum Node {
 fn without_operands(node: Node) -> bool
     ensures { result ≡ is_leaf_of node }
 {
-    match node {
-        Node::Constant(_, _) => true,
-        Node::Now(_) => true,
-        Node::At(_, _, _) => true,
-        Node::Operator(_) => false,
-    }
+    !matches!(node, Node::Operator(_))
 }
 
 // The length of the body of a node without operands, as the constant table has it. Where the node is in hand its case says the length: the
@@ -270,7 +267,8 @@ pub fn leaf_body(node: Node) -> u8
     ensures { result ≡ leaf_body_of node }
 {
     match node {
-        Node::Constant(t, _) => { if t == FLAG { FLAG_BODY } else { WORD_BODY } }
+        Node::Constant(FLAG, _) => FLAG_BODY,
+        Node::Constant(_, _) => WORD_BODY,
         Node::Now(_) => NOW_BODY,
         Node::At(_, _, _) => AT_BODY,
         // An operator has no body.
@@ -312,7 +310,7 @@ fn node_near(table: &[u8], kind: u8, at: usize) -> Node
     ensures { result ≡ node_of table.now kind at }
 {
     if kind == FLAG_KIND {
-        Node::Constant(FLAG, wire::byte_word(byte_near(table, at)))
+        Node::Constant(FLAG, u32::from(byte_near(table, at)))
     } else if kind == WORD_KIND {
         Node::Constant(WORD, word_near(table, at))
     } else if kind == LEVEL_KIND {
@@ -346,7 +344,7 @@ pub fn node_of(table: &[u8], kind: u8, at: usize) -> Node
     ensures { result ≡ node_of table.now kind at }
 {
     if kind == FLAG_KIND {
-        Node::Constant(FLAG, wire::byte_word(table[at]))
+        Node::Constant(FLAG, u32::from(table[at]))
     } else if kind == WORD_KIND {
         Node::Constant(WORD, wire::word_at(table, at))
     } else if kind == LEVEL_KIND {

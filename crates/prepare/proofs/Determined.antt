@@ -1,9 +1,8 @@
 -- What preparing determines: its answer, and where that is yes all that a turn goes by but the order within it. Assumes nothing.
 use Prim.Native.Nat.{ℕ}
 use mathlib.Core.Path.{◌≡◌, refl, sym, ◌∙◌}
-use mathlib.Core.Bool.{Bool, true, false}
 use mathlib.Core.List.{List}
-use Rattle.basis.proofs.Tests.{true_false}
+use Rattle.std.specs.Prelude.{Option, Some, None}
 use Rattle.table.proofs.Decoding.{same_table}
 use Rattle.prepare.specs.declared.Prepared.{Prepared}
 use Rattle.prepare.specs.Preparing.{Brief, brief_by, Prepares, Preparing}
@@ -19,9 +18,9 @@ record SameBrief (p q : Brief) : Type 0 where
   room : p.room ≡ q.room
   closing : p.closing ≡ q.closing
 
-prepared_is : {r : Prepared} {ok : Bool} {inputs streams words room closing : ℕ} → r.ok ≡ ok → r.inputs ≡ inputs → r.streams ≡ streams → r.words ≡ words → r.room ≡ room → r.closing ≡ closing →
-    r ≡ record { ok = ok; inputs = inputs; streams = streams; words = words; room = room; closing = closing }
-prepared_is a b c d e f = rw (← a, ← b, ← c, ← d, ← e, ← f) refl
+prepared_is : {r : Prepared} {inputs streams words room closing : ℕ} → r.inputs ≡ inputs → r.streams ≡ streams → r.words ≡ words → r.room ≡ room → r.closing ≡ closing →
+    r ≡ record { inputs = inputs; streams = streams; words = words; room = room; closing = closing }
+prepared_is a b c d e = rw (← a, ← b, ← c, ← d, ← e) refl
 
 module _ (s look kept : List ℕ) where
   prepares_once : {p q : Brief} → Prepares s look kept p → Prepares s look kept q → SameBrief p q
@@ -36,17 +35,16 @@ module _ (s look kept : List ℕ) where
     closing = x.closing_is ∙ sym y.closing_is;
   }
 
-  preparing_once : (a b : Bool) (p q : Brief) → Preparing a s look kept p → Preparing b s look kept q → (a ≡ b) × (a ≡ true → SameBrief p q)
-  preparing_once true true p q x y = (refl, λ e. prepares_once x y)
-  preparing_once true false p q x y = absurd (y x.accepted x.look_is x.kept_is)
-  preparing_once false true p q x y = absurd (x y.accepted y.look_is y.kept_is)
-  preparing_once false false p q x y = (refl, λ e. true_false e refl)
+  -- `prepare`: two answers are both nothing, or one answer with the same types, roles and starts
+  module _ (types roles starts order types' roles' starts' order' : List ℕ) where
+    abbrev Once : Option Prepared → Option Prepared → Type 0
+    Once None None = Unit {0}
+    Once None (Some q) = ⊥
+    Once (Some p) None = ⊥
+    Once (Some p) (Some q) = (p ≡ q) × (types ≡ types') × (roles ≡ roles') × (starts ≡ starts')
 
-  -- `prepare`
-  module _ (a b : Prepared) (types roles starts order types' roles' starts' order' : List ℕ) where
-    pub prepared_once :
-        Preparing a.ok s look kept (brief_by a types roles starts order) → Preparing b.ok s look kept (brief_by b types' roles' starts' order') →
-        (a.ok ≡ b.ok) × (a.ok ≡ true → (a ≡ b) × (types ≡ types') × (roles ≡ roles') × (starts ≡ starts'))
-    prepared_once x y =
-        let v = preparing_once a.ok b.ok (brief_by a types roles starts order) (brief_by b types' roles' starts' order') x y in
-        (v.0, λ e. let t = v.1 e in (prepared_is v.0 t.inputs t.streams t.words t.room t.closing, t.types, t.roles, t.starts))
+    pub prepared_once : (a b : Option Prepared) → Preparing a s look kept types roles starts order → Preparing b s look kept types' roles' starts' order' → Once a b
+    prepared_once None None x y = tt
+    prepared_once None (Some q) x y = x y.accepted y.look_is y.kept_is
+    prepared_once (Some p) None x y = y x.accepted x.look_is x.kept_is
+    prepared_once (Some p) (Some q) x y = let t = prepares_once x y in (prepared_is t.inputs t.streams t.words t.room t.closing, t.types, t.roles, t.starts)

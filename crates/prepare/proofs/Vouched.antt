@@ -17,16 +17,9 @@ use Rattle.table.proofs.Entries.{padded_at}
 use Rattle.table.proofs.Sound.{sound}
 use Rattle.announce.specs.declared.Checked.{Checked}
 use Rattle.announce.specs.Announced.{look_ahead_of, room_bytes_of, closing_turns_of, acceptance, announced}
-use Rattle.vouch.specs.Vouching.{Vouched, Vouches, Verdict}
-use Rattle.prepare.specs.Preparing.{Brief, Prepares, Preparing}
-use Rattle.prepare.proofs.Announcing.{announced_certified, look_announced, kept_announced_list, words_announced, closing_announced, certified_accepted}
-
-pub vouched_for : {b : Bool} {s look kept : List ℕ} {r : Vouched} → b ≡ true → Verdict b s look kept r → Vouches s look kept r
-vouched_for {s = s} {look = look} {kept = kept} {r = r} e v = subst (λ (b : Bool). Verdict b s look kept r) e v
-
-pub not_prepared : (s look kept : List ℕ) (r : Vouched) (p : Brief) {a b : Bool} → a ≡ false → Verdict a s look kept r → b ≡ false → Preparing b s look kept p
-not_prepared s look kept r p e v g =
-    subst (λ (b : Bool). Preparing b s look kept p) (sym g) (announced_certified s look kept (subst (λ (b : Bool). Verdict b s look kept r) e v))
+use Rattle.vouch.specs.Vouching.{Vouched, Vouches}
+use Rattle.prepare.specs.Preparing.{Prepares}
+use Rattle.prepare.proofs.Announcing.{look_announced, kept_announced_list, words_announced, closing_announced, certified_accepted}
 
 -- the sum of roles that are 0 or 1
 few_triggers : (roles : List ℕ) (n : ℕ) → ((v : ℕ) → get_or roles v 0 ≤ 1) → total (of roles) n ≤ 1 * n

@@ -1,6 +1,6 @@
 -- What a call prepares of the table's bytes by its record's numbers, without the square (document 01, "Every call tests the table
 -- first" and refusal 10). Assumes nothing.
-use Rattle.std.specs.Prelude.{ℕ, ◌-◌, ◌≡◌, Bool, true, false, List, ◌++◌, length, replicate}
+use Rattle.std.specs.Prelude.{ℕ, ◌-◌, ◌≡◌, List, ◌++◌, length, replicate, Option, Some, None}
 use Rattle.limits.specs.Limits.{most_streams}
 use Rattle.node.specs.Kinds.{Tabulated}
 use Rattle.vouch.specs.Vouching.{Blank}
@@ -59,7 +59,7 @@ pub record Prepares (s look kept : List ℕ) (p : Brief) : Type 0 where
   pub starts_are : p.starts ≡ padded (replicate table.inputs 0 ++ starts_of table.equations)
   pub ordered : Ordered (Among (edges table)) (streams table) (of look) (of kept) p.order
 
--- by `ok`: prepared, or the numbers are not those announced of an accepted table
-abbrev pub Preparing : Bool → (s look kept : List ℕ) → Brief → Type 0
-Preparing true s look kept p = Prepares s look kept p
-Preparing false s look kept p = (announced s).number ≡ 0 → (announced s).look ≡ look → (announced s).kept ≡ kept → ⊥
+-- prepared, or the numbers are not those announced of an accepted table
+abbrev pub Preparing : Option Prepared → (s look kept types roles starts order : List ℕ) → Type 0
+Preparing (Some p) s look kept types roles starts order = Prepares s look kept (brief_by p types roles starts order)
+Preparing None s look kept types roles starts order = (announced s).number ≡ 0 → (announced s).look ≡ look → (announced s).kept ≡ kept → ⊥

@@ -3,7 +3,7 @@
 #![tactic(auto)]
 
 ghost use Rattle.std.specs.Prelude.{◌≡◌, false};
-ghost use Rattle.prepare.specs.Preparing.{brief_by, CanPrepare, Preparing};
+ghost use Rattle.prepare.specs.Preparing.{CanPrepare, Preparing};
 
 use limits::STREAMS_MOST;
 use node::{ENTRIES, KINDS_MOST};
@@ -32,17 +32,14 @@ pub fn prepare(
     order: &mut [u8; STREAMS_MOST],
 ) -> Option<Prepared>
     requires { CanPrepare kinds.now look.now kept.now types.old roles.old starts.old order.old }
-    ensures { Prepares result table.now look.now kept.now types.new roles.new starts.new order.new }
+    ensures { Preparing result table.now look.now kept.now types.new roles.new starts.new order.new }
 {
     let found = vouch::vouch(table, kinds, look, kept, types, roles, starts, order)?;
-    let inputs = found.inputs;
-    let streams = found.streams;
-    let words = found.words;
-    let room = records::room_of(streams - inputs, found.triggers);
+    let room = records::room_of(found.streams - found.inputs, found.triggers);
     Some(Prepared {
-        inputs,
-        streams,
-        words,
+        inputs: found.inputs,
+        streams: found.streams,
+        words: found.words,
         room,
         closing: found.closing,
     })

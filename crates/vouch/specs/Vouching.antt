@@ -1,6 +1,6 @@
 -- When a record's numbers are vouched for against a table's bytes (document 01, "What the check announces" and "A run").
 -- Assumes nothing.
-use Rattle.std.specs.Prelude.{ℕ, ◌≤◌, ◌≡◌, Bool, true, false, List, ◌++◌, length, replicate}
+use Rattle.std.specs.Prelude.{ℕ, ◌≤◌, ◌≡◌, List, ◌++◌, length, replicate, Option, Some, None}
 use Rattle.basis.specs.Firsts.{of}
 use Rattle.limits.specs.Limits.{most_streams, most_words}
 use Rattle.basis.specs.Sums.{total, most}
@@ -48,10 +48,16 @@ pub record Vouches (s look kept : List ℕ) (r : Vouched) : Type 0 where
   pub roles_are : r.roles ≡ padded table.roles
   pub starts_are : r.starts ≡ padded (replicate table.inputs 0 ++ starts_of table.equations)
 
--- the verdict: yes with all that, or no and these are not the numbers of a table of these bytes
-abbrev pub Verdict : Bool → List ℕ → List ℕ → List ℕ → Vouched → Type 0
-Verdict true s look kept r = Vouches s look kept r
-Verdict false s look kept r = (t : Table) → decode s ≡ decoded t → Certified t look kept → ⊥
+-- the sums of the record's numbers, and of the triggers
+pub record Summed (r : Found) (look kept roles : List ℕ) : Type 0 where
+  pub words_sum : r.words ≡ total (of kept) r.streams
+  pub triggers_sum : r.triggers ≡ total (of roles) r.streams
+  pub closing_most : r.closing ≡ most (of look) r.streams
+
+-- the verdict: vouched for with all that, or these are not the numbers of a table of these bytes
+abbrev pub Verdict : Option Found → (s look kept types roles starts order : List ℕ) → Type 0
+Verdict (Some r) s look kept types roles starts order = Vouches s look kept (vouched_by r types roles starts order) × Summed r look kept roles
+Verdict None s look kept types roles starts order = (t : Table) → decode s ≡ decoded t → Certified t look kept → ⊥
 
 -- arrays that nothing was written into yet
 pub record Blank (types roles starts order : List ℕ) : Type 0 where
@@ -59,9 +65,3 @@ pub record Blank (types roles starts order : List ℕ) : Type 0 where
   pub no_roles : roles ≡ replicate most_streams 0
   pub no_starts : starts ≡ replicate most_streams 0
   pub order_long : length order ≡ most_streams
-
--- the sums of the record's numbers, and of the triggers, where they are vouched for
-pub record Summed (r : Found) (look kept roles : List ℕ) : Type 0 where
-  pub words_sum : r.ok ≡ true → r.words ≡ total (of kept) r.streams
-  pub triggers_sum : r.ok ≡ true → r.triggers ≡ total (of roles) r.streams
-  pub closing_most : r.ok ≡ true → r.closing ≡ most (of look) r.streams

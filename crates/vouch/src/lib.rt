@@ -6,7 +6,7 @@ ghost use Rattle.std.specs.Prelude.{◌≡◌, false, ◌-◌, length, take};
 ghost use Rattle.basis.specs.Firsts.{of};
 ghost use Rattle.node.specs.Kinds.{Tabulated};
 ghost use Rattle.table.specs.Table.{equations_at_of};
-ghost use Rattle.vouch.specs.Vouching.{vouched_by, Verdict, Blank, Summed};
+ghost use Rattle.vouch.specs.Vouching.{Verdict, Blank};
 ghost use Rattle.vouch.specs.Steps.{CanJudge, Judgement};
 
 use expression::UNSEEN;
@@ -83,7 +83,7 @@ pub fn vouch(
     order: &mut [u8; STREAMS_MOST],
 ) -> Option<Found>
     requires { Tabulated kinds.now × Blank types.old roles.old starts.old order.old }
-    ensures { Vouches result table.now look.now kept.now types.new roles.new starts.new order.new }
+    ensures { Verdict result table.now look.now kept.now types.new roles.new starts.new order.new }
 {
     let Ok(heading) = table::scan_heading(table, kinds, types, roles) else {
         return None;

@@ -50,13 +50,13 @@ pub returns-then-table-at : goal.returns-then-table-at
 returns-then-table-at c = no_kind c.args.table.now c.args.at c.if-table-at.true
 
 pub returns-then-kind-ge-KINDS_MOST : goal.returns-then-kind-ge-KINDS_MOST
-returns-then-kind-ge-KINDS_MOST c = strange c.args.table.now c.args.at c.if-table-at.false c.byte_size-kind.ensures.0 c.if-kind-ge-KINDS_MOST.true
+returns-then-kind-ge-KINDS_MOST c = strange c.args.table.now c.args.at c.if-table-at.false c.from-kind.ensures c.if-kind-ge-KINDS_MOST.true
 
 pub returns-then-results_of-eq-NOTHING : goal.returns-then-results_of-eq-NOTHING
-returns-then-results_of-eq-NOTHING c = no_node c.args.table.now c.args.at c.if-table-at.false c.byte_size-kind.ensures.0 c.results_of.ensures c.if-results_of-eq-NOTHING.true
+returns-then-results_of-eq-NOTHING c = no_node c.args.table.now c.args.at c.if-table-at.false c.from-kind.ensures c.results_of.ensures c.if-results_of-eq-NOTHING.true
 
 pub returns-then-table-at-2 : goal.returns-then-table-at-2
-returns-then-table-at-2 c = no_body c.args.table.now c.args.at c.if-table-at.false c.byte_size-kind.ensures.0 c.results_of.ensures c.body_of.ensures.0 c.if-results_of-eq-NOTHING.false c.if-table-at-2.true
+returns-then-table-at-2 c = no_body c.args.table.now c.args.at c.if-table-at.false c.from-kind.ensures c.results_of.ensures c.body_of.ensures.0 c.if-results_of-eq-NOTHING.false c.if-table-at-2.true
 
 pub returns : goal.returns
-returns c = whole c.args.table.now c.args.at c.if-table-at.false c.byte_size-kind.ensures.0 c.results_of.ensures c.body_of.ensures.0 c.if-results_of-eq-NOTHING.false c.if-table-at-2.false
+returns c = whole c.args.table.now c.args.at c.if-table-at.false c.from-kind.ensures c.results_of.ensures c.body_of.ensures.0 c.if-results_of-eq-NOTHING.false c.if-table-at-2.false

@@ -1,17 +1,21 @@
 -- `leaf_body`, by the node's case; the numbers are the constant table's.
 -- Assumes nothing.
-use borrow.Author.Tests.{eq-eqb, ne_eqb}
+use borrow.Author.Tests.{ne_eqb}
 use Rattle.node.specs.Kinds.{rows, look, rule_of}
 use Rattle.node.specs.Node.{leaf_body_of}
 use Rattle.node.proofs.leaf_body.Goals as goal
 
-pub returns-then-t-eq-FLAG : goal.returns-then-t-eq-FLAG
+pub returns-in-Constant-eq0-default : goal.returns-in-Constant-eq0-default
 unfolding leaf_body_of rows look rule_of
-returns-then-t-eq-FLAG c = rw (c.in-Constant.is, eq-eqb _ _ c.if-t-eq-FLAG.true)
+returns-in-Constant-eq0-default c =
+    let n = c.in-Constant-eq0-default in
+    rw (n.is, ← n.field-0-is, n.field-0-test)
 
-pub returns-else-t-eq-FLAG : goal.returns-else-t-eq-FLAG
+pub returns-in-Constant : goal.returns-in-Constant
 unfolding leaf_body_of rows look rule_of
-returns-else-t-eq-FLAG c = rw (c.in-Constant.is, ne_eqb _ _ c.if-t-eq-FLAG.false)
+returns-in-Constant c =
+    let n = c.in-Constant in
+    rw (n.is, ← n.field-0-is, ne_eqb _ _ n.field-0-test.1)
 
 pub returns-in-Now : goal.returns-in-Now
 unfolding leaf_body_of rows look rule_of

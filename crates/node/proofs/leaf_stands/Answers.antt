@@ -1,12 +1,7 @@
 -- `leaf_stands`: by the node as far as the table goes.
 -- Assumes nothing.
-use mathlib.Core.Path.{ap, ◌∙◌}
-use Rattle.node.specs.Node.{is_leaf_of}
 use Rattle.node.proofs.Nodes.{none_stands}
 use Rattle.node.proofs.leaf_stands.Goals as goal
 
 pub returns-then-table-at : goal.returns-then-table-at
 returns-then-table-at c = none_stands _ _ c.if-table-at.true
-
-pub returns : goal.returns
-returns c = c.without_operands.ensures ∙ ap is_leaf_of c.node_near.ensures

@@ -10,7 +10,7 @@ use Rattle.node.proofs.Nodes.{is_16, is_17, is_18, is_19, is_20, is_other}
 use Rattle.node.proofs.node_near.Goals as goal
 
 pub returns-then-kind-eq-FLAG_KIND : goal.returns-then-kind-eq-FLAG_KIND
-returns-then-kind-eq-FLAG_KIND c = ap (Constant 0) (c.byte_word.ensures.0 ∙ c.byte_near.ensures) ∙ is_16 _ _ _ c.if-kind-eq-FLAG_KIND.true
+returns-then-kind-eq-FLAG_KIND c = ap (Constant 0) (c.from.ensures ∙ c.byte_near.ensures) ∙ is_16 _ _ _ c.if-kind-eq-FLAG_KIND.true
 
 pub returns-then-kind-eq-WORD_KIND : goal.returns-then-kind-eq-WORD_KIND
 returns-then-kind-eq-WORD_KIND c = ap (Constant 1) c.word_near.ensures ∙ is_17 _ _ _ c.if-kind-eq-WORD_KIND.true

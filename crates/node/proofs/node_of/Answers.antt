@@ -44,7 +44,7 @@ unfolding rule_of rows look
 word_at-requires-then-kind-eq-AT_KIND c = omega (arith, body_at _ 20 c.if-kind-eq-AT_KIND.true)
 
 pub returns-then-kind-eq-FLAG_KIND : goal.returns-then-kind-eq-FLAG_KIND
-returns-then-kind-eq-FLAG_KIND c = ap (Constant 0) c.byte_word.ensures.0 ∙ is_16 _ _ _ c.if-kind-eq-FLAG_KIND.true
+returns-then-kind-eq-FLAG_KIND c = ap (Constant 0) c.from.ensures ∙ is_16 _ _ _ c.if-kind-eq-FLAG_KIND.true
 
 pub returns-then-kind-eq-WORD_KIND : goal.returns-then-kind-eq-WORD_KIND
 returns-then-kind-eq-WORD_KIND c = ap (Constant 1) c.word_at.ensures ∙ is_17 _ _ _ c.if-kind-eq-WORD_KIND.true
