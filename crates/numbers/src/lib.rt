@@ -34,7 +34,7 @@ pub fn sums(
     for v in 0..s {
         words += usize::from(kept[v]);
         triggers += usize::from(roles[v]);
-        closing = closing.max(look[v]);
+        closing = look[v].max(closing);
     }
     Totals {
         words,

@@ -55,8 +55,8 @@ fn relax_row(row: &mut [i64; STREAMS_MOST], via: &[i64; STREAMS_MOST], left: i64
 }
 
 // The square relaxed through one stream more. That stream's row and each row's total to it are read before they change, so all cells
-// change at once. (It is kept out of line, as two others below: in one frame the compiler keeps more copies of the square at once, and
-// the check would take 8 KiB of stack more.)
+// change at once. (It is kept out of line, as two others below and two of `announce`: in one frame the compiler keeps more copies of the
+// square at once, and the check would take 7 KiB of stack more.)
 #[inline(never)]
 fn relax(d: &mut [[i64; STREAMS_MOST]; STREAMS_MOST], k: usize)
     requires { (k < most_streams) × AllSmall 61 d.old }

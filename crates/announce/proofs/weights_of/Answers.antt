@@ -13,7 +13,7 @@ see-requires c = (c.loop-y.invariant.few, types_length c.requires, refl)
 pub scan_expr-requires : goal.scan_expr-requires
 scan_expr-requires c =
     let a = arrays_of c.requires in
-    can_scan a (c.loop-y.invariant.weighs c.requires.table a).0 c.loop-y-test.true c.kind_table-kinds.ensures (all_seen a c.see.ensures).0 refl c.from.ensures
+    can_scan a (c.loop-y.invariant.weighs c.requires.table a).0 c.loop-y-test.true c.kind_table-kinds.ensures (all_seen a c.see.ensures).0 refl c.from-start.ensures
 
 pub loop-y-preserved : goal.loop-y-preserved
 loop-y-preserved c =
@@ -25,7 +25,7 @@ loop-y-preserved c =
       weighs = λ t a.
           let w = i.weighs t a in
           let z = all_seen a c.see.ensures in
-          (omega (arith, w.0), weights_more a w.0 c.loop-y-test.true z.0 z.1 i.rise_long i.fall_long w.1 refl c.from.ensures (c.scan_expr.ensures _ z.0) c.noted.ensures c.noted-in-loop-y.ensures);
+          (omega (arith, w.0), weights_more a w.0 c.loop-y-test.true z.0 z.1 i.rise_long i.fall_long w.1 refl c.from-start.ensures (c.scan_expr.ensures _ z.0) c.noted.ensures c.noted-in-loop-y.ensures);
     }
 
 pub returns : goal.returns

@@ -8,8 +8,8 @@ use Rattle.announce.proofs.weights_of.Given as goal
 
 abbrev pub invariant-loop-y : goal.invariant-loop-y
 invariant-loop-y l = record {
-  few : l.streams ≤ most_streams;
-  rise_long : length l.rise ≡ most_streams;
-  fall_long : length l.fall ≡ most_streams;
-  weighs : (t : Table) → Arrays l.table t l.types l.starts l.streams → (t.inputs ≤ l.y) × WeighsTo t l.y l.rise l.fall;
+  few : l.scan.streams ≤ most_streams;
+  rise_long : length l.weights.rise ≡ most_streams;
+  fall_long : length l.weights.fall ≡ most_streams;
+  weighs : (t : Table) → Arrays l.table t l.scan.types l.scan.starts l.scan.streams → (t.inputs ≤ l.y) × WeighsTo t l.y l.weights.rise l.weights.fall;
 }
