@@ -102,6 +102,7 @@ pub fn clear(store: &mut [u32], words: usize)
 }
 
 // The frame of turn t over a store of `words` words, where `known` rows are known. The running sum of the kept numbers is where a part starts.
+// A part is written field by field: put together and written at once, the bytes between its fields are written too.
 pub fn lay(
     types: &[u8; STREAMS_MOST],
     look: &[u16; STREAMS_MOST],
@@ -119,22 +120,18 @@ pub fn lay(
     for v in 0..streams {
         let ahead = u64::from(look[v]);
         let n = u32::from(kept[v]);
-        let lap = if ahead <= t {
+        let part = &mut frame.parts[v];
+        if ahead <= t {
             let p = if t < known + ahead {
                 t - ahead
             } else {
                 known - 1
             };
-            lap_before(p as u32, n)
-        } else {
-            0
-        };
-        frame.parts[v] = Part {
-            lap,
-            start,
-            kept: n,
-            kind: types[v],
-        };
+            part.lap = lap_before(p as u32, n);
+        }
+        part.start = start;
+        part.kept = n;
+        part.kind = types[v];
         start += n;
     }
     frame.known = known as u32;
