@@ -1,9 +1,9 @@
 // The program's lines, written into a lent slice (document 01, "The program"). Each function answers where its text ends.
 #![tactic(auto)]
 
-ghost use Rattle.std.specs.Prelude.{◌≡◌, ◌+◌, ◌≤◌, ◌<◌, length};
+ghost use Rattle.std.specs.Prelude.{◌+◌, ◌≤◌, length};
 ghost use Rattle.basis.specs.Written.{Wrote};
-ghost use Rattle.lines.specs.Lines.{decimal, two_digits, spaced, pair, hex_digit_of, hex2, hex8, value_line, trigger_line, refusal_line, stop_line, end_line};
+ghost use Rattle.lines.specs.Lines.{decimal, spaced, pair, hex8, value_line, trigger_line, refusal_line, stop_line, end_line};
 ghost use Rattle.lines.specs.Lines.{most_value_line, most_trigger_line, most_refusal_line, most_stop_line, most_end_line};
 
 // "each ended by byte 0A"
@@ -77,28 +77,13 @@ fn put_spaced(out: &mut [u8], at: usize, x: u64) -> usize
     put_decimal(out, next, x)
 }
 
-// In decimal, without leading zeros. The digits in front are written first, so that there is one division for each two digits.
+// In decimal, without leading zeros.
 pub fn put_decimal(out: &mut [u8], at: usize, x: u64) -> usize
     requires { at + length (decimal x) ≤ length out.old }
     ensures { Wrote out.old at (decimal x) out.new result }
 {
-    if x < 10 {
-        return wire::put_byte(out, at, b'0' + x as u8);
-    }
-    if x < 100 {
-        return put_two(out, at, x as u8);
-    }
-    let next = put_decimal(out, at, x / 100);
-    put_two(out, next, (x % 100) as u8)
-}
-
-// Two digits, of a number below 100.
-fn put_two(out: &mut [u8], at: usize, x: u8) -> usize
-    requires { (at + 2 ≤ length out.old) × (x < 100) }
-    ensures { Wrote out.old at (two_digits x) out.new result }
-{
-    let next = wire::put_byte(out, at, b'0' + x / 10);
-    wire::put_byte(out, next, b'0' + x % 10)
+    let mut buffer = itoa::Buffer::new();
+    wire::put_bytes(out, at, buffer.format(x).as_bytes())
 }
 
 // Eight hexadecimal digits.
@@ -106,26 +91,7 @@ pub fn put_hex8(out: &mut [u8], at: usize, w: u32) -> usize
     requires { at + 8 ≤ length out.old }
     ensures { Wrote out.old at (hex8 w) out.new result }
 {
-    let [a, b, c, d] = w.to_be_bytes();
-    let one = put_hex2(out, at, a);
-    let two = put_hex2(out, one, b);
-    let three = put_hex2(out, two, c);
-    put_hex2(out, three, d)
-}
-
-fn put_hex2(out: &mut [u8], at: usize, b: u8) -> usize
-    requires { at + 2 ≤ length out.old }
-    ensures { Wrote out.old at (hex2 b) out.new result }
-{
-    let high = hex_digit(b / 16);
-    let low = hex_digit(b % 16);
-    let next = wire::put_byte(out, at, high);
-    wire::put_byte(out, next, low)
-}
-
-fn hex_digit(d: u8) -> u8
-    requires { d < 16 }
-    ensures { result ≡ hex_digit_of d }
-{
-    if d < 10 { b'0' + d } else { b'a' + (d - 10) }
+    let end = at + 8;
+    hex::encode_to_slice(w.to_be_bytes(), &mut out[at..end]).unwrap();
+    end
 }

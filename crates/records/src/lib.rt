@@ -103,15 +103,15 @@ pub fn put_lines(records: &[u8], count: usize, out: &mut [u8], at: usize) -> usi
 }
 
 // The line of the record that the bytes start with, which is of the kind given.
-fn put_record_line(record: &[u8], kind: Kind, out: &mut [u8], at: usize) -> usize
-    requires { StartsWith kind record.now × (at + 3 * size_for kind ≤ length out.old) }
-    ensures { Wrote out.old at (item_line (item_of record.now)) out.new result × (result ≤ at + 3 * size_for kind) }
+fn put_record_line(bytes: &[u8], kind: Kind, out: &mut [u8], at: usize) -> usize
+    requires { StartsWith kind bytes.now × (at + 3 * size_for kind ≤ length out.old) }
+    ensures { Wrote out.old at (item_line (item_of bytes.now)) out.new result × (result ≤ at + 3 * size_for kind) }
 {
-    let stream = record[1];
-    let position = wire::word_at(record, 2);
+    let stream = bytes[1];
+    let position = wire::word_at(bytes, 2);
     match kind {
         Kind::Value => {
-            let value = wire::word_at(record, 6);
+            let value = wire::word_at(bytes, 6);
             lines::put_value_line(out, at, stream, position, value)
         }
         Kind::Trigger => lines::put_trigger_line(out, at, stream, position),

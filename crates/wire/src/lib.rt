@@ -29,7 +29,11 @@ pub fn put_word(out: &mut [u8], at: usize, w: u32) -> usize
     requires { at + 4 ≤ length out.old }
     ensures { Wrote out.old at (le4 w) out.new result }
 {
-    put_bytes(out, at, &w.to_le_bytes())
+    let [a, b, c, d] = w.to_le_bytes();
+    let one = put_byte(out, at, a);
+    let two = put_byte(out, one, b);
+    let three = put_byte(out, two, c);
+    put_byte(out, three, d)
 }
 
 // The number in the four bytes from `at` on.

@@ -1,13 +1,15 @@
--- The four bytes, the most significant first. Assumes nothing.
-use Rattle.std.proofs.Common.{ℕ, List, ◌++◌, get_or, sym, ap}
-use Rattle.basis.proofs.Written.{then, wrote_as}
-use Rattle.lines.specs.Lines.{hex2, hex8}
+-- The digits that the kit's `hex` gives. Assumes nothing.
+use Rattle.std.proofs.Common.{sym, ap, ◌∙◌, arith, length}
+use Rattle.std.proofs.lemmas.Result.{IfOk-at_ok}
+use Rattle.basis.proofs.Written.{wrote_as}
+use Rattle.wire.proofs.Words.{wrote_copied}
+use Rattle.hex.specs.Hex.{encode_lower}
+use Rattle.lines.proofs.Lengths.{hex8_length}
+use Rattle.lines.proofs.Hex.{hex8_as_text}
 use Rattle.lines.proofs.put_hex8.Goals as goal
 
-digits : List ℕ → List ℕ
-digits l = hex2 (get_or l 0 0) ++ (hex2 (get_or l 1 0) ++ (hex2 (get_or l 2 0) ++ hex2 (get_or l 3 0)))
-
 pub returns : goal.returns
-unfolding digits hex8
 returns c =
-    wrote_as (sym (ap digits c.to_be_bytes.ensures)) (then c.put_hex2-one.ensures (then c.put_hex2-two.ensures (then c.put_hex2-three.ensures c.put_hex2.ensures)))
+    let written = IfOk-at_ok _ c.unwrap.ensures c.encode_to_slice.ensures.written in
+    let text = written ∙ ap encode_lower c.to_be_bytes.ensures ∙ hex8_as_text c.args.w in
+    wrote_as (sym text) (wrote_copied _ _ _ _ (omega (arith, ap length text, hex8_length c.args.w)) c.requires)
