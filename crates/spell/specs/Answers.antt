@@ -1,19 +1,21 @@
 -- What the readers of a text's parts answer, as relations to the forms (crate `shapes`); where they read none of a form, the text leaves it
 -- (`Lost`). Assumes nothing.
-use Rattle.std.specs.Prelude.{ℕ, ◌+◌, ◌≤◌, ◌<◌, ◌≡◌, List, [], ◌∷◌, ◌++◌, ℤ, length}
+use Rattle.std.specs.Prelude.{ℕ, ◌≤◌, ◌<◌, ◌≡◌, ◌≢◌, List, [], ◌∷◌, ◌++◌, ℤ, length, slice_index}
 use Rattle.lines.specs.Lines.{hex_digit_of, hex8}
 use Rattle.shapes.specs.Forms.{word}
-use Rattle.shapes.specs.Places.{Got, Lost}
+use Rattle.shapes.specs.Places.{Got}
 use Rattle.shapes.specs.Numbers.{number, offset, hex_one, times}
 use Rattle.expression.specs.Generation.{signed_byte_of}
 use Rattle.source.specs.Words.{word_of}
 use Rattle.source.specs.Trees.{signed, Ranged}
 use Rattle.spell.specs.declared.Spelt.{Spelt}
 
--- all of a word stands at a place, or its first n bytes and not the next one
-pub data Common (w : List ℕ) (text : List ℕ) (at : ℕ) (n : ℕ) : Type 0 where
-  all_there : n ≡ length w → Got (word w) text at tt (at + n) → Common w text at n
-  parts_there : n < length w → Lost (word w) text at (at + n) → Common w text at n
+-- two texts begin with the same n bytes, and behind these one of them ends or they part
+pub record Alike (s t : List ℕ) (n : ℕ) : Type 0 where
+  pub within_first : n ≤ length s
+  pub within_second : n ≤ length t
+  pub same : (k : ℕ) → k < n → slice_index s k ≡ slice_index t k
+  pub parts : n < length s → n < length t → slice_index s n ≢ slice_index t n
 
 -- a word of the rows from one up to another
 pub record WordRead (from to : ℕ) (text : List ℕ) (at : ℕ) (s : Spelt ℕ) : Type 0 where

@@ -2,12 +2,12 @@
 // behind it, or the place where the text leaves what may stand there. It assumes nothing.
 #![tactic(auto)]
 
-ghost use Rattle.std.specs.Prelude.{◌≡◌, ◌+◌, ◌≤◌, ◌<◌, MatchOption, MatchResult, length};
+ghost use Rattle.std.specs.Prelude.{◌≤◌, ◌<◌, MatchOption, MatchResult, length};
 ghost use Rattle.shapes.specs.Numbers.{number, offset, hex_one, times};
 ghost use Rattle.shapes.specs.Places.{Lost};
 ghost use Rattle.source.specs.Words.{many_words};
 ghost use Rattle.words.specs.Rows.{Among};
-ghost use Rattle.spell.specs.Answers.{Common, WordRead, NumberRead, OffsetRead, NoDigit, DigitRead, HexRead};
+ghost use Rattle.spell.specs.Answers.{Alike, WordRead, NumberRead, OffsetRead, NoDigit, DigitRead, HexRead};
 
 // What was read, and the place behind it.
 #[derive(Clone, Copy)]
@@ -16,16 +16,11 @@ pub struct Spelt<T> {
     pub next: usize,
 }
 
-// How many bytes of a word stand at a place.
-fn common(text: &[u8], at: usize, word: &[u8]) -> usize
-    requires { at ≤ length text.now }
-    ensures { Common word.now text.now at result }
+// How many bytes two texts begin with alike.
+fn shared(a: &[u8], b: &[u8]) -> usize
+    ensures { Alike a.now b.now result }
 {
-    text[at..]
-        .iter()
-        .zip(word)
-        .take_while(|(b, c)| b == c)
-        .count()
+    a.iter().zip(b).take_while(|(x, y)| x == y).count()
 }
 
 // The row of the word that stands at a place, of the rows from one up to another. The fault is where the last of them parts from the text.
@@ -36,11 +31,14 @@ pub fn word_at(text: &[u8], at: usize, from: usize, to: usize) -> Result<Spelt<u
     let mut far = at;
     for row in from..to {
         let word = words::word(row);
-        let next = at + common(text, at, word);
-        if next == at + word.len() {
-            return Ok(Spelt { what: row, next });
+        let n = shared(&text[at..], word);
+        if n == word.len() {
+            return Ok(Spelt {
+                what: row,
+                next: at + n,
+            });
         }
-        far = far.max(next);
+        far = far.max(at + n);
     }
     Err(far)
 }
@@ -56,10 +54,13 @@ pub fn number_at(
     requires { (at ≤ length text.now) × (least ≤ 1) × (9 ≤ most) × (stop < 48) }
     ensures { MatchResult result (NumberRead least most stop text.now at) (Lost (number least most stop) text.now at) }
 {
-    let mut what = match text.get(at) {
-        Some(first) if first.is_ascii_digit() && *first - b'0' >= least => u32::from(*first - b'0'),
-        _ => return Err(at),
+    let Some(&first) = text.get(at) else {
+        return Err(at);
     };
+    if first < b'0' + least || first > b'9' {
+        return Err(at);
+    }
+    let mut what = u32::from(first - b'0');
     for i in at + 1..text.len() {
         let b = text[i];
         if b == stop {
@@ -110,10 +111,10 @@ pub fn hex_at(text: &[u8], at: usize) -> Result<Spelt<u32>, usize>
 {
     let mut what = 0;
     for n in 0..8 {
-        let Some(b) = text.get(at + n) else {
+        let Some(&b) = text.get(at + n) else {
             return Err(at + n);
         };
-        let Some(d) = digit_of(*b) else {
+        let Some(d) = digit_of(b) else {
             return Err(at + n);
         };
         what = what * 16 + d;
