@@ -23,7 +23,7 @@ pub record Weighs (t : Table) (rise fall : List (List ℕ)) : Type 0 where
 pub record Scanned (s : List ℕ) (c : Scan) : Type 0 where
   pub table : Table
   pub decodes : decode s ≡ decoded table
-  pub scan_is : c ≡ scan_of (decoded table)
+  pub scan_is : c ≡ scan_of table
 
 -- what the loop over the equations holds of the table: its scan's arrays and its number of streams
 pub record Arrays (s : List ℕ) (t : Table) (types starts : List ℕ) (streams_held : ℕ) : Type 0 where

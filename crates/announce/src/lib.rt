@@ -95,19 +95,19 @@ fn weights_of(table: &[u8], scan: Scan) -> Weights
     ensures { (x : Scanned table.now scan) → Weighs x.table result.rise result.fall }
 {
     let kinds = node::kind_table();
-    let types = scan.types;
-    let starts = scan.starts;
-    let streams = scan.streams;
-    let mut rise = [[0; STREAMS_MOST]; STREAMS_MOST];
-    let mut fall = [[0; STREAMS_MOST]; STREAMS_MOST];
-    for y in scan.inputs..streams {
+    let mut weights = Weights {
+        rise: [[0; STREAMS_MOST]; STREAMS_MOST],
+        fall: [[0; STREAMS_MOST]; STREAMS_MOST],
+    };
+    for y in scan.inputs..scan.streams {
         let mut seen = [expression::UNSEEN; STREAMS_MOST];
-        expression::see(&types, streams, &mut seen);
-        expression::scan_expr(table, &kinds, &mut seen, types[y], usize::from(starts[y]));
-        rise[y] = noted(&seen, expression::SEEN_RISE);
-        fall[y] = noted(&seen, expression::SEEN_FALL);
+        expression::see(&scan.types, scan.streams, &mut seen);
+        let start = usize::from(scan.starts[y]);
+        expression::scan_expr(table, &kinds, &mut seen, scan.types[y], start);
+        weights.rise[y] = noted(&seen, expression::SEEN_RISE);
+        weights.fall[y] = noted(&seen, expression::SEEN_FALL);
     }
-    Weights { rise, fall }
+    weights
 }
 
 // The square of the largest weights, NONE where there is no edge. (Out of line for the stack's sake, as `square::relax`.)
@@ -132,14 +132,12 @@ fn numbers_of(
     requires { Fitting scan look fall.now }
     ensures { checked_as result ≡ numbers_for scan look fall.now }
 {
-    let streams = scan.streams;
-    let roles = scan.roles;
-    let kept = kept::kept_of(&look, fall, streams);
-    let totals = numbers::sums(&look, &kept, &roles, streams);
+    let kept = kept::kept_of(&look, fall, scan.streams);
+    let totals = numbers::sums(&look, &kept, &scan.roles, scan.streams);
     if limits::STORE_MOST < totals.words {
         return Err(Fault::OverWords.at(0));
     }
-    let room = records::room_of(streams - scan.inputs, totals.triggers);
+    let room = records::room_of(scan.streams - scan.inputs, totals.triggers);
     Ok(Announced {
         look,
         kept,
