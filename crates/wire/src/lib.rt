@@ -1,8 +1,8 @@
-// Bytes of a lent slice ("Numbers are little-endian", document 01, "The table"), and numbers made wider. A writer takes the place where it
-// starts and answers the place behind. It assumes nothing.
+// Bytes of a lent slice ("Numbers are little-endian", document 01, "The table"). A writer takes the place where it starts and answers the
+// place behind. It assumes nothing.
 #![tactic(auto)]
 
-ghost use Rattle.std.specs.Prelude.{◌≡◌, [], ◌∷◌, ◌+◌, ◌≤◌, ◌<◌, ◌^◌, length};
+ghost use Rattle.std.specs.Prelude.{◌≡◌, [], ◌∷◌, ◌+◌, ◌≤◌, ◌<◌, length};
 ghost use Rattle.basis.specs.Written.{Wrote};
 ghost use Rattle.wire.specs.Bytes.{le4, word_of, word_at};
 
@@ -49,47 +49,4 @@ pub fn word_of(a: u8, b: u8, c: u8, d: u8) -> u32
     ensures { result ≡ word_of a b c d }
 {
     u32::from_le_bytes([a, b, c, d])
-}
-
-// A number of 8, 16 or 32 bits made wider: the same number, with the bound that its type gave.
-pub fn byte_short(x: u8) -> u16
-    ensures { (result ≡ x) × (result < 256) }
-{
-    x as u16
-}
-
-pub fn byte_word(x: u8) -> u32
-    ensures { (result ≡ x) × (result < 256) }
-{
-    x as u32
-}
-
-pub fn byte_size(x: u8) -> usize
-    ensures { (result ≡ x) × (result < 256) }
-{
-    x as usize
-}
-
-pub fn short_word(x: u16) -> u32
-    ensures { (result ≡ x) × (result < 65536) }
-{
-    x as u32
-}
-
-pub fn short_size(x: u16) -> usize
-    ensures { (result ≡ x) × (result < 65536) }
-{
-    x as usize
-}
-
-pub fn short_wide(x: u16) -> u64
-    ensures { (result ≡ x) × (result < 65536) }
-{
-    x as u64
-}
-
-pub fn word_wide(x: u32) -> u64
-    ensures { (result ≡ x) × (result < 2 ^ 32) }
-{
-    x as u64
 }
