@@ -15,14 +15,15 @@ use Rattle.table.specs.Table.{Decoded}
 use Rattle.announce.specs.declared.Checked.{Checked}
 use Rattle.announce.specs.Announced.{announced}
 use Rattle.prepare.specs.PlanFor.{table_in, table_for, first_bad_of}
-use Rattle.prepare.specs.Preparing.{Brief, Prepares}
+use Rattle.prepare.specs.declared.Prepared.{Prepared}
+use Rattle.prepare.specs.Preparing.{brief_by, Prepares}
 use Rattle.prepare.proofs.Held.{types_held}
 use Rattle.monitor.specs.declared.Phase.{Phase}
 use Rattle.monitor.specs.declared.Phase.TheVariants.{Reading, Draining, Over}
 use Rattle.monitor.specs.declared.Run.{Run}
 use Rattle.monitor.specs.declared.Turn.{Turn}
 use Rattle.monitor.specs.declared.Turn.TheVariants.{Row, Closing}
-use Rattle.monitor.specs.Refusals.{Fault, fault, fine, refuse_if, after_table, eqbs, phase_agrees, record_agrees_of, of_table_of, is_reading_of, is_draining_of, open_fault, close_refusal, close_fault_of, row_refusal, row_fault_of, drain_refusal, drain_fault_of, turn_fault_of}
+use Rattle.monitor.specs.Refusals.{Fault, fault, fine, refuse_if, after_table, eqbs, phase_agrees, record_agrees_of, of_table_of, is_reading_of, is_draining_of, open_fault, close_refusal, close_fault_of, row_refusal, row_fault_of, drain_refusal, drain_fault_of, agrees_with, row_tests_of, drain_tests_of, close_tests_of, turn_fault_of, turn_tests}
 
 -- ---- the table and the record's numbers
 
@@ -73,43 +74,37 @@ unfolding first_bad_of
 first_bad_same ts us ws h zero x = refl
 first_bad_same ts us ws h (suc k) x = λ i. cond (eqb (h x i) 0 && ltb 1 (get_or ws x 0)) x (first_bad_same ts us ws h k (suc x) i)
 
--- ---- by a brief: the record's numbers are those announced
-abbrev agrees_by : Run → Brief → Bool
-agrees_by r p = record_agrees_of r.phase r.rows r.done p.closing
+-- ---- by what is prepared: the record's numbers are those announced
 
-abbrev pub turn_by_of : Turn → Run → Brief → (lent : ℕ) (ws : List ℕ) (space : ℕ) → Fault
-turn_by_of Row r p lent ws space = row_refusal (agrees_by r p) r.phase r.rows p.words p.room p.inputs (first_bad_of p.types ws p.inputs 0) lent (length ws) space
-turn_by_of Closing r p lent ws space = drain_refusal (agrees_by r p) r.phase p.words p.room lent space
-
-module _ {s : List ℕ} (r : Run) {p : Brief} (x : Prepares s r.look r.kept p) where
-  of_table : of_table_of r (announced s) ≡ agrees_by r p
+module _ {s : List ℕ} (r : Run) (q : Prepared) {types roles starts order : List ℕ} (x : Prepares s r.look r.kept (brief_by q types roles starts order)) where
+  of_table : of_table_of r (announced s) ≡ agrees_with r q
   unfolding of_table_of
   of_table =
       rw (x.look_is, x.kept_is, eqbs_same r.look, eqbs_same r.kept)
       (ap (record_agrees_of r.phase r.rows r.done) (sym x.closing_is))
 
-  pub close_prepared : close_fault_of s r ≡ close_refusal (agrees_by r p) r.phase
+  pub close_prepared : close_fault_of s r ≡ close_tests_of r q
   close_prepared = table_passed s _ x.accepted ∙ ap (λ (b : Bool). close_refusal b r.phase) of_table
 
-  pub drain_prepared : (lent space : ℕ) → drain_fault_of s r lent space ≡ drain_refusal (agrees_by r p) r.phase p.words p.room lent space
+  pub drain_prepared : (lent space : ℕ) → drain_fault_of s r lent space ≡ drain_tests_of r q lent space
   drain_prepared lent space =
       table_passed s _ x.accepted ∙ (λ i. drain_refusal (of_table i) r.phase (sym x.words_are i) (sym x.room_is i) lent space)
 
-  inputs_same : (table_for s).inputs ≡ p.inputs
+  inputs_same : (table_for s).inputs ≡ q.inputs
   inputs_same = ap (λ (d : Decoded). (table_in d).inputs) x.decodes ∙ sym x.inputs_are
 
-  types_same : (v : ℕ) → get_or (table_for s).types v 0 ≡ get_or p.types v 0
+  types_same : (v : ℕ) → get_or (table_for s).types v 0 ≡ get_or types v 0
   types_same v = ap (λ (d : Decoded). get_or (table_in d).types v 0) x.decodes ∙ types_held x v
 
-  bad_same : (ws : List ℕ) → first_bad_of (table_for s).types ws (table_for s).inputs 0 ≡ first_bad_of p.types ws p.inputs 0
-  bad_same ws = first_bad_same (table_for s).types p.types ws types_same (table_for s).inputs 0 ∙ ap (λ (n : ℕ). first_bad_of p.types ws n 0) inputs_same
+  bad_same : (ws : List ℕ) → first_bad_of (table_for s).types ws (table_for s).inputs 0 ≡ first_bad_of types ws q.inputs 0
+  bad_same ws = first_bad_same (table_for s).types types ws types_same (table_for s).inputs 0 ∙ ap (λ (n : ℕ). first_bad_of types ws n 0) inputs_same
 
-  pub row_prepared : (lent : ℕ) (ws : List ℕ) (space : ℕ) → row_fault_of s r lent ws space ≡ row_refusal (agrees_by r p) r.phase r.rows p.words p.room p.inputs (first_bad_of p.types ws p.inputs 0) lent (length ws) space
+  pub row_prepared : (lent : ℕ) (ws : List ℕ) (space : ℕ) → row_fault_of s r lent ws space ≡ row_tests_of r q types lent ws space
   row_prepared lent ws space =
       table_passed s _ x.accepted
       ∙ (λ i. row_refusal (of_table i) r.phase r.rows (sym x.words_are i) (sym x.room_is i) (inputs_same i) (bad_same ws i) lent (length ws) space)
 
-  pub turn_prepared : (k : Turn) (lent : ℕ) (ws : List ℕ) (space : ℕ) → turn_fault_of k s r lent ws space ≡ turn_by_of k r p lent ws space
+  pub turn_prepared : (k : Turn) (lent : ℕ) (ws : List ℕ) (space : ℕ) → turn_fault_of k s r lent ws space ≡ turn_tests k r q types lent ws space
   turn_prepared Row lent ws space = row_prepared lent ws space
   turn_prepared Closing lent ws space = drain_prepared lent space
 
