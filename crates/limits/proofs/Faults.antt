@@ -66,6 +66,13 @@ number_within ShortOutput = (omega arith, omega arith)
 pub number_some : (f : Fault) → number_for f ≡ 0 → ⊥
 number_some f e = let h = number_within f in omega arith
 
+-- what a test answers is determined by the number that it looks for
+pub tested_once : (n : ℕ) (a b : Result (Unit {0}) Fault) → Tested a n → Tested b n → a ≡ b
+tested_once n (Ok a) (Ok b) x y = refl
+tested_once n (Ok a) (Err g) x y = absurd (number_some g (sym y ∙ x))
+tested_once n (Err f) (Ok b) x y = absurd (number_some f (sym x ∙ y))
+tested_once n (Err f) (Err g) x y = ap Err (fault_once f g (sym x ∙ y))
+
 -- ---- what becomes of a test by `map_err(|fault| fault.at(place))`
 
 module _ {n : ℕ} (t : Result (Unit {0}) Fault) {r : Result (Unit {0}) Refusal} (Q : Fault → Refusal → Type 0) (x : Tested t n) (m : MatchResult t (λ y. r ≡ Ok y) (λ f. IsErrAnd r (Q f))) where

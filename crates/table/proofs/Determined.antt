@@ -1,4 +1,5 @@
--- What the scan of the heading determines: its answer, and the lent types and roles where there is no fault. Assumes nothing.
+-- What the scan of the heading determines: its answer, and the lent types and roles where there is no fault; and that of the whole table.
+-- Assumes nothing.
 use Rattle.std.proofs.Common.{Result, Ok, Err}
 use Prim.Native.Nat.{ℕ}
 use mathlib.Core.Path.{◌≡◌, sym, ap, ◌∙◌, subst}
@@ -6,8 +7,10 @@ use mathlib.Core.List.{List}
 use Rattle.limits.specs.declared.Refusal.{Refusal}
 use Rattle.limits.proofs.Faults.{refusal_once}
 use Rattle.table.specs.declared.Heading.{Heading}
+use Rattle.table.specs.declared.Scan.{Scan}
 use Rattle.table.specs.Records.{Declared, declares, wrong}
-use Rattle.table.specs.Answers.{HeadingFor, Laid, Headings}
+use Rattle.table.specs.Table.{Decoded, decoded, refused}
+use Rattle.table.specs.Answers.{HeadingFor, Laid, Headings, Scans}
 
 heading_once : (i : ℕ) (d : Declared) (h k : Result Heading Refusal) → HeadingFor i d h → HeadingFor i d k → h ≡ k
 heading_once i (declares ts rs n) (Ok h) (Ok k) p q = ap Ok (p ∙ sym q)
@@ -27,3 +30,12 @@ headings_once {i} {d} {h} {k} {types} {roles} {types'} {roles'} x y = (
       let q : Laid (declares ts rs n) types' roles' = subst (λ (d : Declared). Laid d types' roles') e y.laid in
       (p.0 ∙ sym q.0, p.1 ∙ sym q.1),
 )
+
+-- the scan of a whole table
+pub scan_once : (d : Decoded) (a b : Result Scan Refusal) → Scans d a → Scans d b → a ≡ b
+scan_once (decoded t) (Ok a) (Ok b) x y = ap Ok (x ∙ sym y)
+scan_once (decoded t) (Ok a) (Err q) x y = absurd y
+scan_once (decoded t) (Err r) b x y = absurd x
+scan_once (refused why place) (Ok a) b x y = absurd x
+scan_once (refused why place) (Err r) (Ok b) x y = absurd y
+scan_once (refused why place) (Err r) (Err q) x y = ap Err (refusal_once x y)
