@@ -77,10 +77,10 @@ function any_file(word) {
         || word ~ /^(src|specs|proofs|must-fail)(\/|$)/ || word ~ /^[0-9\/]+$/ || word ~ /^\/+$/
 }
 # A name of ours: any in docs/PROMISES.md, where an edit may stand without its crate; in another page of docs/ one with a capital, a
-# hyphen or a line below inside, as definitions and laws have. docs/PORT.md also has the names of before.
+# hyphen or a line below inside, as definitions and laws have. docs/PORT.md and docs/DESIGN-PASS.md also have the names of before.
 function is_name(word) {
     if (FILENAME ~ /PROMISES/) return word ~ /^\.?[A-Za-z][A-Za-z0-9_-]*$/
-    return FILENAME ~ /^docs\// && FILENAME !~ /PORT/ && (word ~ /^[a-z]+[A-Z][A-Za-z0-9]*$/ || word ~ /^[a-z]+[_-][a-z0-9_-]+$/)
+    return FILENAME ~ /^docs\// && FILENAME !~ /PORT|DESIGN/ && (word ~ /^[a-z]+[A-Z][A-Za-z0-9]*$/ || word ~ /^[a-z]+[_-][a-z0-9_-]+$/)
 }
 function is_path(word) { return word ~ /\// || word ~ /\.(antt|rt|rs|sh|py|md|edit|svg|txt)$/ }
 
@@ -107,8 +107,9 @@ function links(text, target, path, at) {
     }
 }
 
-# `crate::name` and `Type::name`.
+# `crate::name` and `Type::name`. docs/PORT.md and docs/DESIGN-PASS.md have those of before too.
 function code_name(word, part) {
+    if (FILENAME ~ /PORT|DESIGN/) return
     split(word, part, "::")
     sub(/[^A-Za-z0-9_].*/, "", part[2])
     if (part[1] ~ /^(std|core|f32|u32)$/) return
