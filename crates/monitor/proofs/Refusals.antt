@@ -133,62 +133,9 @@ module _ (s : List ℕ) {c : Checked} (e : c ≡ announced s) where
   unfolding open_fault
   open_0 lent h g = let k : (announced s).words ≤ lent = subst (λ (d : Checked). d.words ≤ lent) e g in table_passed s _ (passed h) ∙ rw (le-ltb _ _ k)
 
--- ---- closing
-
-module _ (o : Bool) (phase : Phase) where
-  pub close_10 : o ≡ false → fault foreign_record 0 ≡ close_refusal o phase
-  unfolding close_refusal
-  close_10 e = rw e
-
-  pub close_12 : o ≡ true → is_reading_of phase ≡ false → fault wrong_phase 0 ≡ close_refusal o phase
-  unfolding close_refusal
-  close_12 e q = rw (e, q)
-
-  pub close_0 : o ≡ true → is_reading_of phase ≡ true → fine ≡ close_refusal o phase
-  unfolding close_refusal
-  close_0 e q = rw (e, q)
-
 -- ---- a row
 
 module _ (o : Bool) (phase : Phase) (rows words room inputs bad lent given space : ℕ) where
-  pub row_10 : o ≡ false → fault foreign_record 0 ≡ row_refusal o phase rows words room inputs bad lent given space
-  unfolding row_refusal
-  row_10 e = rw e
-
-  module _ (e : o ≡ true) where
-    pub row_11 : lent < words → fault short_store 0 ≡ row_refusal o phase rows words room inputs bad lent given space
-    unfolding row_refusal
-    row_11 h = rw (e, lt-ltb _ _ h)
-
-    module _ (s : words ≤ lent) where
-      pub row_12 : is_reading_of phase ≡ false → fault wrong_phase 0 ≡ row_refusal o phase rows words room inputs bad lent given space
-      unfolding row_refusal
-      row_12 q = rw (e, le-ltb _ _ s, q)
-
-      module _ (q : is_reading_of phase ≡ true) where
-        pub row_13 : most_rows ≤ rows → fault row_limit 0 ≡ row_refusal o phase rows words room inputs bad lent given space
-        unfolding row_refusal
-        row_13 f = rw (e, le-ltb _ _ s, q, le-leb _ _ f)
-
-        module _ (f : rows < most_rows) where
-          pub row_14 : (given ≡ inputs → ⊥) → fault row_length_of 0 ≡ row_refusal o phase rows words room inputs bad lent given space
-          unfolding row_refusal
-          row_14 l = rw (e, le-ltb _ _ s, q, lt-leb _ _ f, ne_eqb _ _ l)
-
-          module _ (l : given ≡ inputs) {b : ℕ} (h : b ≡ bad) where
-            pub row_15 : b < inputs → fault wrong_flag b ≡ row_refusal o phase rows words room inputs bad lent given space
-            unfolding row_refusal
-            row_15 g = rw (e, le-ltb _ _ s, q, lt-leb _ _ f, eq-eqb _ _ l, ← h, lt-ltb _ _ g)
-
-            module _ (g : inputs ≤ b) where
-              pub row_16 : space < room → fault short_output 0 ≡ row_refusal o phase rows words room inputs bad lent given space
-              unfolding row_refusal
-              row_16 k = rw (e, le-ltb _ _ s, q, lt-leb _ _ f, eq-eqb _ _ l, ← h, le-ltb _ _ g, lt-ltb _ _ k)
-
-              pub row_0 : room ≤ space → fine ≡ row_refusal o phase rows words room inputs bad lent given space
-              unfolding row_refusal
-              row_0 k = rw (e, le-ltb _ _ s, q, lt-leb _ _ f, eq-eqb _ _ l, ← h, le-ltb _ _ g, le-ltb _ _ k)
-
   -- what an accepted row call knows
   pub record RowAccepted : Type 0 where
     pub store_long : words ≤ lent
@@ -217,29 +164,6 @@ module _ (o : Bool) (phase : Phase) (rows words room inputs bad lent given space
 -- ---- draining
 
 module _ (o : Bool) (phase : Phase) (words room lent space : ℕ) where
-  pub drain_10 : o ≡ false → fault foreign_record 0 ≡ drain_refusal o phase words room lent space
-  unfolding drain_refusal
-  drain_10 e = rw e
-
-  module _ (e : o ≡ true) where
-    pub drain_11 : lent < words → fault short_store 0 ≡ drain_refusal o phase words room lent space
-    unfolding drain_refusal
-    drain_11 h = rw (e, lt-ltb _ _ h)
-
-    module _ (s : words ≤ lent) where
-      pub drain_12 : is_draining_of phase ≡ false → fault wrong_phase 0 ≡ drain_refusal o phase words room lent space
-      unfolding drain_refusal
-      drain_12 q = rw (e, le-ltb _ _ s, q)
-
-      module _ (q : is_draining_of phase ≡ true) where
-        pub drain_16 : space < room → fault short_output 0 ≡ drain_refusal o phase words room lent space
-        unfolding drain_refusal
-        drain_16 h = rw (e, le-ltb _ _ s, q, lt-ltb _ _ h)
-
-        pub drain_0 : room ≤ space → fine ≡ drain_refusal o phase words room lent space
-        unfolding drain_refusal
-        drain_0 h = rw (e, le-ltb _ _ s, q, le-ltb _ _ h)
-
   -- what an accepted draining call knows
   pub record DrainAccepted : Type 0 where
     pub store_long : words ≤ lent
@@ -315,29 +239,33 @@ module _ (s : List ℕ) (r : Run) (lent : ℕ) (ws : List ℕ) (space : ℕ) {f 
 
 -- ---- a record that is not of the table
 
-pub foreign_number : (s : List ℕ) {f : Fault} → f ≡ after_table s (fault foreign_record 0) → f.number ≡ 0 → ⊥
-unfolding after_table
-foreign_number s {f} e h = go (eqb (announced s).number 0) refl (ap (λ (g : Fault). g.number) (sym e) ∙ h)
-  where
-    go : (b : Bool) → eqb (announced s).number 0 ≡ b → (refuse_if (not b) (announced s).number (announced s).place (fault foreign_record 0)).number ≡ 0 → ⊥
-    go true q k = omega (arith, k)
-    go false q k = eqb-false _ _ q k
+row_10 : (phase : Phase) (rows words room inputs bad lent given space : ℕ) → row_refusal false phase rows words room inputs bad lent given space ≡ fault foreign_record 0
+unfolding row_refusal
+row_10 phase rows words room inputs bad lent given space = refl
+
+drain_10 : (phase : Phase) (words room lent space : ℕ) → drain_refusal false phase words room lent space ≡ fault foreign_record 0
+unfolding drain_refusal
+drain_10 phase words room lent space = refl
+
+close_10 : (phase : Phase) → close_refusal false phase ≡ fault foreign_record 0
+unfolding close_refusal
+close_10 phase = refl
 
 module _ (s : List ℕ) (r : Run) (no : (announced s).number ≡ 0 → (announced s).look ≡ r.look → (announced s).kept ≡ r.kept → ⊥) where
   pub foreign_row : (lent : ℕ) (ws : List ℕ) (space : ℕ) → after_table s (fault foreign_record 0) ≡ row_fault_of s r lent ws space
   foreign_row lent ws space =
       let c = announced s in
       let t = table_for s in
-      foreign_refused s r no (λ b. row_refusal b r.phase r.rows c.words c.room t.inputs (first_bad_of t.types ws t.inputs 0) lent (length ws) space) (sym (row_10 false _ _ _ _ _ _ _ _ _ refl))
+      foreign_refused s r no (λ b. row_refusal b r.phase r.rows c.words c.room t.inputs (first_bad_of t.types ws t.inputs 0) lent (length ws) space) (row_10 _ _ _ _ _ _ _ _ _)
 
   pub foreign_drain : (lent space : ℕ) → after_table s (fault foreign_record 0) ≡ drain_fault_of s r lent space
   foreign_drain lent space =
       let c = announced s in
-      foreign_refused s r no (λ b. drain_refusal b r.phase c.words c.room lent space) (sym (drain_10 false _ _ _ _ _ refl))
+      foreign_refused s r no (λ b. drain_refusal b r.phase c.words c.room lent space) (drain_10 _ _ _ _ _)
 
   pub foreign_turn : (k : Turn) (lent : ℕ) (ws : List ℕ) (space : ℕ) → after_table s (fault foreign_record 0) ≡ turn_fault_of k s r lent ws space
   foreign_turn Row lent ws space = foreign_row lent ws space
   foreign_turn Closing lent ws space = foreign_drain lent space
 
   pub foreign_close : after_table s (fault foreign_record 0) ≡ close_fault_of s r
-  foreign_close = foreign_refused s r no (λ b. close_refusal b r.phase) (sym (close_10 false _ refl))
+  foreign_close = foreign_refused s r no (λ b. close_refusal b r.phase) (close_10 _)
