@@ -8,10 +8,8 @@ use lib.Dec.{ltb}
 use borrow.Author.Tests.{lt-ltb, le-ltb}
 use Rattle.limits.specs.Refusals.{foreign_record}
 use Rattle.monitor.specs.declared.Run.{Run}
-use Rattle.monitor.specs.declared.Answer.{Answer}
-use Rattle.monitor.specs.declared.Fault.{Fault}
-use Rattle.monitor.specs.Refusals.{fault, after_table}
-use Rattle.monitor.specs.Calls.{After, open_call, close_call, Leaves, Opens}
+use Rattle.monitor.specs.Refusals.{Fault, fault, after_table}
+use Rattle.monitor.specs.Calls.{Answer, After, open_call, close_call, Leaves, Opens}
 use Rattle.dock.specs.declared.Record.{Record}
 use Rattle.dock.specs.declared.Reply.{Reply}
 use Rattle.dock.specs.Lent.{over_byte, reply_for, Left, left_by_of, strange_reply, lent, lent_open, Gives}

@@ -1,13 +1,15 @@
 -- What each entry of the dock leaves, for every argument (document 01, "A run"): "that entry gives what the by-value call gives".
 -- Assumes nothing.
-use Rattle.std.specs.Prelude.{ℕ, ◌≡◌, cond, List, [], eqb, ltb}
-use Rattle.limits.specs.Refusals.{foreign_record}
+use Rattle.std.specs.Prelude.{ℕ, ◌≤◌, ◌<◌, ◌≡◌, cond, List, [], eqb, ltb, Option, MatchOption, Result, Ok, Err}
+use Rattle.limits.specs.Refusals.{accepted, foreign_record}
+use Rattle.limits.specs.Faults.{number_for}
+use Rattle.limits.specs.declared.Refusal.{Refusal}
 use Rattle.monitor.specs.declared.Run.{Run}
-use Rattle.monitor.specs.declared.Answer.{Answer}
+use Rattle.monitor.specs.declared.Answer as code
 use Rattle.monitor.specs.declared.Phase.{Phase}
 use Rattle.monitor.specs.declared.Phase.TheVariants.{Reading, Draining, Over}
 use Rattle.monitor.specs.Refusals.{fault, after_table}
-use Rattle.monitor.specs.Calls.{After, open_call, row_call_of, close_call, drain_call_of}
+use Rattle.monitor.specs.Calls.{Answer, answered, After, open_call, row_call_of, close_call, drain_call_of}
 use Rattle.dock.specs.declared.Record.{Record}
 use Rattle.dock.specs.declared.Reply.{Reply}
 use Rattle.dock.specs.declared.Told.{Told}
@@ -40,6 +42,20 @@ record_of r = record { look = r.look; kept = r.kept; rows = r.rows; done = r.don
 
 abbrev pub reply_for : Answer → Reply
 reply_for a = record { held = record_of a.run; told = record { number = a.number; place = a.place; count = a.count } }
+
+-- what comes of a run's call is told so, and its answer is replied so; a record is one of a run where its byte is a phase
+abbrev pub told_for : Result ℕ Refusal → Told
+told_for (Ok count) = record { number = accepted; place = 0; count = count }
+told_for (Err e) = record { number = number_for e.fault; place = e.place; count = 0 }
+
+abbrev pub Tells : Result ℕ Refusal → Told → Type 0
+Tells o t = t ≡ told_for o
+
+abbrev pub Replies : code.Answer → Reply → Type 0
+Replies a r = r ≡ reply_for (answered a)
+
+abbrev pub IsRun : Record → Option Run → Type 0
+IsRun d r = MatchOption r (over_byte < d.phase) (λ run. (d.phase ≤ over_byte) × (run ≡ run_of d))
 
 -- what an entry leaves: the record and what is told, the store, the output
 pub record Left : Type 0 where
