@@ -9,18 +9,19 @@ use lib.ListN.{length, drop, replicate}
 use native.Mathlib.Omega.{arith}
 use borrow.Author.Tests.{eq-eqb, ne_eqb}
 use Rattle.limits.specs.Refusals.{foreign_record, short_store}
+use Rattle.limits.specs.declared.Refusal.{Refusal}
+use Rattle.limits.proofs.Faults.{number_some}
 use Rattle.announce.specs.declared.Checked.{Checked}
 use Rattle.announce.specs.Announced.{announced}
 use Rattle.monitor.specs.declared.Phase.{Phase}
 use Rattle.monitor.specs.declared.Phase.TheVariants.{Reading}
 use Rattle.monitor.specs.declared.Run.{Run}
-use Rattle.monitor.specs.declared.Fault.{Fault}
-use Rattle.monitor.specs.declared.Answer.{Answer}
+use Rattle.monitor.specs.declared.Turn.TheVariants.{Row, Closing}
 use Rattle.monitor.specs.declared.Taken.{Taken}
-use Rattle.monitor.specs.Turns.{Turned, Took}
-use Rattle.monitor.specs.Refusals.{fault, after_table, open_fault, close_fault_of}
-use Rattle.monitor.specs.Calls.{After, run_with_of, moved_to, accepted_with, refused_with, refusal, acceptance, zero_run, open_call, row_call_of, closed_phase_of, close_call, drained_phase_of, drain_call_of, Leaves, Opens}
-use Rattle.monitor.proofs.Refusals.{open_refused, open_11, open_0, row_turn, foreign_number, foreign_close}
+use Rattle.monitor.specs.Turns.{Turned, TurnDone, TurnRefused}
+use Rattle.monitor.specs.Refusals.{Fault, fault, fine, told, after_table, open_fault, close_fault_of}
+use Rattle.monitor.specs.Calls.{Answer, After, run_with_of, moved_to, accepted_with, refused_with, refusal, acceptance, zero_run, open_call, row_call_of, closed_phase_of, close_call, drained_phase_of, drain_call_of, Leaves, Opens}
+use Rattle.monitor.proofs.Refusals.{open_refused, open_11, open_0, row_turn, foreign_close}
 
 unless_refused : {m : ℕ} (a b : After) → (m ≡ 0 → ⊥) → cond (eqb m 0) b a ≡ a
 unless_refused a b n = rw (ne_eqb _ _ n)
@@ -28,63 +29,46 @@ unless_refused a b n = rw (ne_eqb _ _ n)
 unless_accepted : {m : ℕ} (a b : After) → m ≡ 0 → cond (eqb m 0) b a ≡ b
 unless_accepted a b e = rw (eq-eqb _ _ e)
 
--- an accepted answer by its record
-pub accepted_as : {a : Answer} {q r : Run} {count : ℕ} → a ≡ accepted_with q count → q ≡ r → a ≡ accepted_with r count
-accepted_as {count = count} e g = e ∙ ap (λ (r : Run). accepted_with r count) g
-
--- an answer found another way
-pub leaves_by : {y : After} {a b : Answer} {st out : List ℕ} → a ≡ b → Leaves y b st out → Leaves y a st out
-leaves_by e l = record { answer_is = e ∙ l.answer_is; store_is = l.store_is; output_is = l.output_is }
-
-pub opens_by : {y : After} {a b : Answer} {st : List ℕ} → a ≡ b → Opens y b st → Opens y a st
-opens_by e l = record { answer_is = e ∙ l.answer_is; store_is = l.store_is }
-
 leaves_as : {x y : After} {a : Answer} {st out : List ℕ} → x ≡ y → Leaves y a st out → Leaves x a st out
 leaves_as e l = rw e l
 
 module _ (s : List ℕ) (r : Run) where
-  pub close_refused : {f : Fault} → (f.number ≡ 0 → ⊥) → f ≡ close_fault_of s r → refused_with r f ≡ (close_call s r).answer
+  pub close_refused : (e : Refusal) → told e ≡ close_fault_of s r → refused_with r (told e) ≡ (close_call s r).answer
   unfolding close_call
-  close_refused n e = rw (← e) (sym (ap (λ (x : After). x.answer) (unless_refused _ _ n)))
+  close_refused e h = rw (← h) (sym (ap (λ (x : After). x.answer) (unless_refused _ _ (number_some e.fault))))
 
   -- a record whose numbers are not those of an accepted table of these bytes
-  pub close_foreign : ((announced s).number ≡ 0 → (announced s).look ≡ r.look → (announced s).kept ≡ r.kept → ⊥) → {f : Fault} → f ≡ after_table s (fault foreign_record 0) → refused_with r f ≡ (close_call s r).answer
-  close_foreign other e = close_refused (foreign_number s e) (e ∙ foreign_close s r other)
+  pub close_foreign : ((announced s).number ≡ 0 → (announced s).look ≡ r.look → (announced s).kept ≡ r.kept → ⊥) → (e : Refusal) → told e ≡ after_table s (fault foreign_record 0) → refused_with r (told e) ≡ (close_call s r).answer
+  close_foreign other e h = close_refused e (h ∙ foreign_close s r other)
 
-  pub close_taken : {f : Fault} {phase : Phase} → f ≡ close_fault_of s r → f.number ≡ 0 → phase ≡ closed_phase_of r.rows (announced s).closing
+  pub close_taken : {phase : Phase} → fine ≡ close_fault_of s r → phase ≡ closed_phase_of r.rows (announced s).closing
       → accepted_with (moved_to r r.rows phase 0) 0 ≡ (close_call s r).answer
   unfolding close_call
-  close_taken e h ep = rw (← e) (sym (ap (λ (x : After). x.answer) (unless_accepted _ _ h) ∙ (λ i. accepted_with (moved_to r r.rows (sym ep i) 0) 0)))
+  close_taken h ep = rw (← h) (λ i. accepted_with (moved_to r r.rows (ep i) 0) 0)
 
--- a call that took a turn, or found a fault first
-module _ (s : List ℕ) (r : Run) {st out st1 out1 : List ℕ} {x : Taken} where
-  module _ {ws : List ℕ} (k : Took false s r ws st out st1 out1 x) where
-    pub row_refused : (x.fault.number ≡ 0 → ⊥) → Leaves (row_call_of s r ws st out) (refused_with r x.fault) st1 out1
-    unfolding row_call_of
-    row_refused n = rw (← k.fault_is) (leaves_as (unless_refused _ _ n) (record { answer_is = refl; store_is = k.store_kept n; output_is = k.output_kept n }))
+-- a call that took a turn, or was refused
+module _ (s : List ℕ) (r : Run) {st out st1 out1 : List ℕ} where
+  pub row_refused : {ws : List ℕ} {e : Refusal} → TurnRefused Row s r ws st out st1 out1 e → Leaves (row_call_of s r ws st out) (refused_with r (told e)) st1 out1
+  unfolding row_call_of
+  row_refused {e = e} k = rw (← k.fault_is) (leaves_as (unless_refused _ _ (number_some e.fault)) (record { answer_is = refl; store_is = k.store_kept; output_is = k.output_kept }))
 
-    pub row_taken : x.fault.number ≡ 0 → Leaves (row_call_of s r ws st out) (accepted_with (moved_to r (r.rows + 1) Reading 0) x.count) st1 out1
-    unfolding row_call_of
-    row_taken h =
-        let v : Turned s (r.rows + 1) r.rows ws st out st1 out1 x.count = subst (λ (t : ℕ). Turned s (r.rows + 1) t ws st out st1 out1 x.count) (row_turn s r (length st) ws (length out) k.fault_is h) (k.turned h) in
-        rw (← k.fault_is)
-        (leaves_as (unless_accepted _ _ h)
-        (record { answer_is = ap (accepted_with (moved_to r (r.rows + 1) Reading 0)) v.output_is.counted; store_is = v.store_is; output_is = v.output_is.written }))
+  pub row_taken : {ws : List ℕ} {x : Taken} → TurnDone Row s r ws st out st1 out1 x → Leaves (row_call_of s r ws st out) (accepted_with (moved_to r (r.rows + 1) Reading 0) x.count) st1 out1
+  unfolding row_call_of
+  row_taken {ws} {x} k =
+      let v : Turned s (r.rows + 1) r.rows ws st out st1 out1 x.count = subst (λ (t : ℕ). Turned s (r.rows + 1) t ws st out st1 out1 x.count) (row_turn s r (length st) ws (length out) k.passes refl) k.turned in
+      rw (← k.passes) (record { answer_is = ap (accepted_with (moved_to r (r.rows + 1) Reading 0)) v.output_is.counted; store_is = v.store_is; output_is = v.output_is.written })
 
-  module _ (k : Took true s r [] st out st1 out1 x) where
-    pub drain_refused : (x.fault.number ≡ 0 → ⊥) → Leaves (drain_call_of s r st out) (refused_with r x.fault) st1 out1
-    unfolding drain_call_of
-    drain_refused n = rw (← k.fault_is) (leaves_as (unless_refused _ _ n) (record { answer_is = refl; store_is = k.store_kept n; output_is = k.output_kept n }))
+  pub drain_refused : {e : Refusal} → TurnRefused Closing s r [] st out st1 out1 e → Leaves (drain_call_of s r st out) (refused_with r (told e)) st1 out1
+  unfolding drain_call_of
+  drain_refused {e} k = rw (← k.fault_is) (leaves_as (unless_refused _ _ (number_some e.fault)) (record { answer_is = refl; store_is = k.store_kept; output_is = k.output_kept }))
 
-    pub drain_taken : {q : ℕ} {phase : Phase} → x.fault.number ≡ 0 → q ≡ r.done + 1 → phase ≡ drained_phase_of q x.closing
-        → Leaves (drain_call_of s r st out) (accepted_with (moved_to r r.rows phase q) x.count) st1 out1
-    unfolding drain_call_of
-    drain_taken {q} {phase} h eq ep =
-        let v = k.turned h in
-        let p : phase ≡ drained_phase_of (r.done + 1) (announced s).closing = ep ∙ (λ i. drained_phase_of (eq i) (k.closing_is h i)) in
-        rw (← k.fault_is)
-        (leaves_as (unless_accepted _ _ h)
-        (record { answer_is = λ i. accepted_with (moved_to r r.rows (p i) (eq i)) (v.output_is.counted i); store_is = v.store_is; output_is = v.output_is.written }))
+  pub drain_taken : {x : Taken} {phase : Phase} → TurnDone Closing s r [] st out st1 out1 x → phase ≡ drained_phase_of (r.done + 1) x.closing
+      → Leaves (drain_call_of s r st out) (accepted_with (moved_to r r.rows phase (r.done + 1)) x.count) st1 out1
+  unfolding drain_call_of
+  drain_taken {x} {phase} k ep =
+      let v = k.turned in
+      let p : phase ≡ drained_phase_of (r.done + 1) (announced s).closing = ep ∙ ap (drained_phase_of (r.done + 1)) k.closing_is in
+      rw (← k.passes) (record { answer_is = λ i. accepted_with (moved_to r r.rows (p i) (r.done + 1)) (v.output_is.counted i); store_is = v.store_is; output_is = v.output_is.written })
 
 module _ (s st : List ℕ) {c : Checked} (e : c ≡ announced s) where
   opening_refused : {f : Fault} → open_fault s (length st) ≡ f → (f.number ≡ 0 → ⊥) → Opens (open_call s st) (refused_with zero_run f) st

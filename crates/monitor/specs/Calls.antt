@@ -57,6 +57,11 @@ with_outcome r (Err e) = refused_with r (told e)
 abbrev pub answered : code.Answer → Answer
 answered a = with_outcome a.run a.outcome
 
+-- the same of a call that writes no bytes, r being the record that a refusal hands back
+abbrev pub ended : Run → Result Run Refusal → Answer
+ended r (Ok q) = accepted_with q 0
+ended r (Err e) = refused_with r (told e)
+
 -- the call's answer: its first fault, if there is one
 abbrev pub unless : Fault → (refused accepted : After) → After
 unless f a b = cond (eqb f.number accepted) b a

@@ -127,6 +127,9 @@ row_tests_of r p types lent ws space =
 abbrev pub drain_tests_of : Run → Prepared → (lent space : ℕ) → Fault
 drain_tests_of r p lent space = drain_refusal (agrees_with r p) r.phase p.words p.room lent space
 
+abbrev pub close_tests_of : Run → Prepared → Fault
+close_tests_of r p = close_refusal (agrees_with r p) r.phase
+
 -- the first fault of a turn's call: of a row, or of a closing turn, for which there is no row
 abbrev pub turn_fault_of : Turn → (s : List ℕ) → Run → (lent : ℕ) (ws : List ℕ) (space : ℕ) → Fault
 turn_fault_of Row s r lent ws space = row_fault_of s r lent ws space

@@ -62,7 +62,7 @@ turn_of r = r.rows + r.done
 
 -- the next turn done: no test refuses it, and x has its bytes and the closing turns announced
 pub record TurnDone (k : Turn) (s : List ℕ) (r : Run) (ws st out st1 out1 : List ℕ) (x : Taken) : Type 0 where
-  pub passes : turn_fault_of k s r (length st) ws (length out) ≡ fine
+  pub passes : fine ≡ turn_fault_of k s r (length st) ws (length out)
   pub turned : Turned s (known_rows_of k r.rows) (turn_of r) ws st out st1 out1 x.count
   pub closing_is : x.closing ≡ (announced s).closing
 

@@ -2,16 +2,16 @@
 // It assumes nothing.
 #![tactic(auto)]
 
-ghost use Rattle.std.specs.Prelude.{◌≡◌, ◌+◌, ◌≤◌, ◌<◌, length};
+ghost use Rattle.std.specs.Prelude.{◌≡◌, ◌+◌, ◌≤◌, ◌<◌, ◌&&◌, true, false, eqb, ltb, length, MatchOption, MatchResult};
 ghost use Rattle.limits.specs.Limits.{most_streams};
 ghost use Rattle.limits.specs.Refusals.{foreign_record};
 ghost use Rattle.prepare.specs.PlanFor.{first_bad_of};
 ghost use Rattle.prepare.specs.Preparing.{brief_by};
 ghost use Rattle.monitor.specs.Phases.{IsPhase, HasByte};
 ghost use Rattle.monitor.specs.Refusals.{fault, told, tested, after_table, record_agrees_of};
-ghost use Rattle.monitor.specs.Refusals.{row_tests_of, drain_tests_of, turn_tests};
+ghost use Rattle.monitor.specs.Refusals.{row_tests_of, drain_tests_of, close_tests_of, turn_tests};
 ghost use Rattle.monitor.specs.Turns.{Turned, TurnFits, TurnReady, known_rows_of, Took, Summed};
-ghost use Rattle.monitor.specs.Calls.{answered, zero_run, closed_phase_of, drained_phase_of};
+ghost use Rattle.monitor.specs.Calls.{answered, ended, zero_run, closed_phase_of, drained_phase_of};
 ghost use Rattle.monitor.specs.Calls.{open_call, row_call_of, close_call, drain_call_of, Leaves, Opens};
 
 use limits::{Fault, Refusal, STREAMS_MOST};
@@ -99,6 +99,7 @@ fn unopened() -> Run
 }
 
 // Whether the rows are within the limit, which is the largest number of their type, and the phase agrees.
+#[tactic(auto, unfolding(crate::specs::Refusals::record_agrees_of, crate::specs::Refusals::phase_agrees))]
 fn record_agrees(phase: Phase, rows: u32, done: u16, closing: u16) -> bool
     ensures { result ≡ record_agrees_of phase rows done closing }
 {
@@ -109,13 +110,22 @@ fn record_agrees(phase: Phase, rows: u32, done: u16, closing: u16) -> bool
     }
 }
 
-// The first input flag with a word above 1.
+// "input flag word above 1".
+fn is_bad(kind: u8, word: u32) -> bool
+    ensures { result ≡ eqb kind 0 && ltb 1 word }
+{
+    kind == node::FLAG && 1 < word
+}
+
+// The first input whose word is bad.
+#[tactic(auto, using(crate::proofs::Tests::one_input, crate::proofs::Tests::none_bad))]
 fn first_bad(row: &[u32], types: &[u8; STREAMS_MOST], inputs: usize) -> Option<usize>
     requires { (inputs ≤ most_streams) × (inputs ≤ length row.now) }
-    ensures { result ≡ first_bad_of types.now row.now inputs 0 }
+    ensures { MatchOption result (first_bad_of types.now row.now inputs 0 ≡ inputs)
+        (λ bad. (bad < inputs) × (first_bad_of types.now row.now inputs 0 ≡ bad)) }
 {
     for i in 0..inputs {
-        if types[i] == node::FLAG && 1 < row[i] {
+        if is_bad(types[i], row[i]) {
             return Some(i);
         }
     }
@@ -166,7 +176,9 @@ fn turn_out(
 }
 
 // Opens a run: the check, then the store's announced words put to 0.
-fn opened(table: &[u8], store: &mut [u32]) -> Result<Run, Refusal> {
+fn opened(table: &[u8], store: &mut [u32]) -> Result<Run, Refusal>
+    ensures { Opens (open_call table.now store.old) (ended zero_run result) store.new }
+{
     let announced = announce::check_table(table)?;
     if store.len() < announced.words {
         return Err(Fault::ShortStore.at(0));
@@ -192,6 +204,7 @@ pub fn open(table: &[u8], store: &mut [u32]) -> Answer
 }
 
 // "Closing fixes N; with N = 0 or no closing turns the run is over".
+#[tactic(auto, unfolding(crate::specs::Calls::closed_phase_of))]
 fn closed_phase(rows: u32, closing: u16) -> Phase
     ensures { result ≡ closed_phase_of rows closing }
 {
@@ -203,6 +216,7 @@ fn closed_phase(rows: u32, closing: u16) -> Phase
 }
 
 // The phase after the closing turn that makes `done` of them.
+#[tactic(auto, unfolding(crate::specs::Calls::drained_phase_of))]
 fn drained_phase(done: u16, closing: u16) -> Phase
     ensures { result ≡ drained_phase_of done closing }
 {
@@ -225,7 +239,11 @@ fn known_rows(turn: Turn, rows: u32) -> u64
 
 impl Run {
     // "not a record of this table", as far as the phase is concerned.
-    fn test_record(self, closing: u16) -> Result<(), Refusal> {
+    fn test_record(self, closing: u16) -> Result<(), Refusal>
+        ensures { MatchResult result (λ _. record_agrees_of self.phase self.rows self.done closing ≡ true)
+            (λ e. (record_agrees_of self.phase self.rows self.done closing ≡ false)
+            × (told e ≡ fault foreign_record 0)) }
+    {
         if record_agrees(self.phase, self.rows, self.done, closing) {
             Ok(())
         } else {
@@ -234,6 +252,7 @@ impl Run {
     }
 
     // "a row with 10 to 16 in order".
+    #[tactic(auto, unfolding(crate::specs::Refusals::row_refusal, crate::specs::Refusals::is_reading_of))]
     fn test_row(
         self,
         prepared: Prepared,
@@ -268,6 +287,7 @@ impl Run {
     }
 
     // "draining with 10, 11, 12, 16".
+    #[tactic(auto, unfolding(crate::specs::Refusals::drain_refusal, crate::specs::Refusals::is_draining_of))]
     fn test_drain(self, prepared: Prepared, lent: usize, space: usize) -> Result<(), Refusal>
         ensures { tested result ≡ drain_tests_of self prepared lent space }
     {
@@ -436,15 +456,25 @@ impl Run {
     }
 
     // "closing with 10, 12".
-    fn closed(self, table: &[u8]) -> Result<Run, Refusal>
+    #[tactic(auto, unfolding(crate::specs::Refusals::close_refusal, crate::specs::Refusals::is_reading_of))]
+    fn test_close(self, prepared: Prepared) -> Result<(), Refusal>
+        ensures { tested result ≡ close_tests_of self prepared }
     {
-        let Some(prepared) = self.sums(table) else {
-            return Err(foreign(table));
-        };
         self.test_record(prepared.closing)?;
         if self.phase != Phase::Reading {
             return Err(Fault::WrongPhase.at(0));
         }
+        Ok(())
+    }
+
+    // The record after closing: "Closing fixes N".
+    fn closed(self, table: &[u8]) -> Result<Run, Refusal>
+        ensures { ended self result ≡ (close_call table.now self).answer }
+    {
+        let Some(prepared) = self.sums(table) else {
+            return Err(foreign(table));
+        };
+        self.test_close(prepared)?;
         Ok(Run {
             phase: closed_phase(self.rows, prepared.closing),
             done: 0,
