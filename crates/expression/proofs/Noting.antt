@@ -3,7 +3,7 @@
 use mathlib.Core.Path.{◌≡◌, refl, sym, ap, ◌∙◌, subst}
 use mathlib.Core.Bool.{cond}
 use mathlib.Core.List.{List}
-use mathlib.Core.Logic.{⊎_elim}
+use mathlib.Core.Logic.{◌⊎◌, inl, inr, ⊎_elim}
 use Prim.Native.Nat.{ℕ, ◌*◌, ◌+◌, ◌≤◌, ◌<◌}
 use native.Mathlib.Omega.{arith}
 use borrow.Author.Tests.{eq-eqb, ne_eqb, lt-ltb, le-ltb}
@@ -78,6 +78,11 @@ word_wrong t x e h = rw (eq-eqb _ _ e, lt-ltb _ _ h)
 type_wrong : (t w : ℕ) → (t ≡ w → ⊥) → type_fault_of t w ≡ wrong_type
 unfolding type_fault_of
 type_wrong t w e = rw (ne_eqb _ _ e)
+
+-- no flag, or one that is 0 or 1
+pub small_flag : {Flag : Type 0} {x : ℕ} → (Flag × (x ≤ 1)) ⊎ (Flag → ⊥) → Flag → x ≤ 1
+small_flag (inl h) e = h.1
+small_flag (inr f) e = absurd (f e)
 
 -- ---- a constant
 

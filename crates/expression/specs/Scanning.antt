@@ -1,5 +1,7 @@
 -- What a scan answers and notes, in the numbers that the code has for it (document 01, "Refusal numbers"). Assumes nothing.
-use Rattle.std.specs.Prelude.{ℕ, ◌+◌, ◌*◌, ◌≤◌, ◌<◌, ◌≡◌, cond, List, eqb, length}
+use Rattle.std.specs.Prelude.{ℕ, ◌+◌, ◌*◌, ◌≤◌, ◌<◌, ◌≡◌, cond, List, eqb, length, Result, Ok, Err}
+use Rattle.limits.specs.Faults.{number_for}
+use Rattle.limits.specs.declared.Refusal.{Refusal}
 use Rattle.limits.specs.Limits.{most_table, most_streams}
 use Rattle.limits.specs.Refusals.{wrong_field, wrong_type}
 use Rattle.basis.specs.Notes.{rising, falling}
@@ -19,6 +21,11 @@ places = 65536
 unfoldable pub scanned_of : Parsed → ℕ
 scanned_of (good e n) = n
 scanned_of (bad why place) = why * places + place
+
+-- what an answer says: the place behind, or the refusal
+abbrev pub Outcome : ℕ → Result ℕ Refusal → Type 0
+Outcome code (Ok place) = (code < places) × (place ≡ code)
+Outcome code (Err r) = (places ≤ code) × (code ≡ number_for r.fault * places + r.place) × (r.place < places)
 
 -- what is answered of a node at a place whose body ends at `next`
 unfoldable pub answered : (ts : List ℕ) (w : ℕ) → Node → (at next : ℕ) → ℕ
@@ -45,9 +52,9 @@ pub record Noting (v rise fall : ℕ) (seen seen' : List (List ℕ)) : Type 0 wh
   pub falls : Shaped most_streams seen_entries seen → column seen_fall seen' ≡ raised v fall (column seen_fall seen)
   pub others : NotesAlone seen seen'
 
--- a place of a table, and a type
-abbrev pub CanNote : (wanted at : ℕ) → Type 0
-CanNote wanted at = (wanted < 3) × (at < places)
+-- a type, the place of a node and the place behind it
+abbrev pub CanNote : (wanted at next : ℕ) → Type 0
+CanNote wanted at next = (wanted < 3) × (at < places) × (next < places)
 
 -- a node without operands: its answer, and its reference noted where it has no fault
 pub record LeafNoted (node : Node) (w at next : ℕ) (ts : List ℕ) (seen seen' : List (List ℕ)) (r : ℕ) : Type 0 where

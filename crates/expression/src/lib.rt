@@ -4,12 +4,13 @@
 
 ghost use Rattle.std.specs.Prelude.{◌≡◌, true, false, List, ℕ, ◌+◌, ◌*◌, ◌/◌, ◌%◌, ◌≤◌, ◌<◌, leb, length, take};
 ghost use Rattle.basis.specs.Notes.{rising, falling};
+ghost use Rattle.limits.specs.Faults.{number_for};
 ghost use Rattle.limits.specs.Limits.{most_streams, most_levels};
 ghost use Rattle.node.specs.declared.Node.TheVariants.{Constant, Now, At};
 ghost use Rattle.node.specs.Node.{is_leaf_of, standing};
 ghost use Rattle.expression.specs.Grammar.{parse};
 ghost use Rattle.expression.specs.Seen.{Seen, unseen, fresh};
-ghost use Rattle.expression.specs.Scanning.{places, other_fault_of, answered, Raised, Noting, CanNote, LeafScanned, CanScan, Scanning};
+ghost use Rattle.expression.specs.Scanning.{places, other_fault_of, answered, Outcome, Raised, Noting, CanNote, LeafScanned, CanScan, Scanning};
 
 use limits::{Fault, Refusal, STREAMS_MOST};
 use node::{ENTRIES, KINDS_MOST, Node};
@@ -39,10 +40,8 @@ pub fn see(
     requires { (streams ≤ most_streams) × (length types.now ≡ most_streams) × (seen.old ≡ unseen) }
     ensures { seen.new ≡ fresh (take streams types.now) }
 {
-    let mut v = 0;
-    while v < streams {
-        seen[v][SEEN_TYPE] = wire::byte_short(types[v]);
-        v += 1;
+    for v in 0..streams {
+        seen[v][SEEN_TYPE] = u16::from(types[v]);
     }
 }
 
@@ -55,14 +54,14 @@ const FALL_OF_ZERO: i16 = limits::FALL_OF_ZERO as i16;
 pub fn rising_of(k: i8) -> u16
     ensures { result ≡ rising k }
 {
-    (k as i16 + RISE_OF_ZERO) as u16
+    (i16::from(k) + RISE_OF_ZERO) as u16
 }
 
 // The same in falling order.
 fn falling_of(k: i8) -> u16
     ensures { result ≡ falling k }
 {
-    (FALL_OF_ZERO - k as i16) as u16
+    (FALL_OF_ZERO - i16::from(k)) as u16
 }
 
 // Raises the entry i of the row v to x, if it is less.
@@ -95,48 +94,66 @@ fn other_fault(t: u16) -> Fault
     }
 }
 
+// A place in a table is below it.
 const PLACES: usize = 65536;
 
+// What a scan answers: the place behind what was scanned, or a refusal. It is one number, the place or the fault's number times PLACES and its
+// place, since a Result costs the scan a tenth more instructions.
 #[derive(Clone, Copy)]
 pub struct Scanned {
-    pub code: usize,
-}
-
-pub fn refused(fault: Fault, place: usize) -> Scanned {
-    Scanned { code: (fault as usize) * PLACES + place }
+    code: usize,
+    ghost few: { code < 17 * places },
 }
 
 impl Scanned {
-    pub fn refuses(self) -> bool { PLACES <= self.code }
-    pub fn place(self) -> usize { self.code % PLACES }
-    pub fn outcome(self) -> Result<usize, Refusal> {
-        if self.refuses() {
-            let fault = match self.code / PLACES {
-                2 => Fault::Missing,
-                3 => Fault::WrongKind,
-                4 => Fault::WrongField,
-                5 => Fault::WrongType,
-                _ => Fault::TooDeep,
-            };
-            Err(Refusal { fault, place: self.code % PLACES })
-        } else { Ok(self.code) }
+    // All was scanned, and `place` is behind it.
+    fn behind(place: usize) -> Scanned
+        requires { place < places }
+        ensures { result.code ≡ place }
+    {
+        Scanned { code: place }
+    }
+
+    // A fault at `place`.
+    pub fn refused(fault: Fault, place: usize) -> Scanned
+        requires { place < places }
+        ensures { result.code ≡ number_for fault * places + place }
+    {
+        Scanned {
+            code: usize::from(u8::from(fault)) * PLACES + place,
+        }
+    }
+
+    // Whether there is a fault; where there is none the code is the place behind.
+    fn refuses(self) -> bool
+        ensures { result ≡ leb places self.code }
+    {
+        PLACES <= self.code
+    }
+
+    // The place behind, or the refusal.
+    pub fn outcome(self) -> Result<usize, Refusal>
+        ensures { Outcome self.code result }
+    {
+        match Fault::try_from((self.code / PLACES) as u8) {
+            Ok(fault) => Err(fault.at(self.code % PLACES)),
+            Err(_) => Ok(self.code),
+        }
     }
 }
 
 // The nodes without operands, each at `at` and with its body ending at `next`: `next`, or the first fault.
 fn scan_constant(t: u8, word: u32, wanted: u8, at: usize, next: usize) -> Scanned
-    requires { at < places }
-    ensures { (ts : List ℕ) → result ≡ answered ts wanted (Constant t word) at next }
+    requires { (at < places) × (next < places) }
+    ensures { (ts : List ℕ) → result.code ≡ answered ts wanted (Constant t word) at next }
 {
-    if t == node::FLAG {
-        if 1 < word {
-            return refused(Fault::WrongField, at);
-        }
+    if t == node::FLAG && 1 < word {
+        return Scanned::refused(Fault::WrongField, at);
     }
     if t != wanted {
-        return refused(Fault::WrongType, at);
+        return Scanned::refused(Fault::WrongType, at);
     }
-    Scanned { code: next }
+    Scanned::behind(next)
 }
 
 fn scan_now(
@@ -146,19 +163,19 @@ fn scan_now(
     at: usize,
     next: usize,
 ) -> Scanned
-    requires { CanNote wanted at }
-    ensures { LeafScanned (Now v) wanted at next seen.old seen.new result }
+    requires { CanNote wanted at next }
+    ensures { LeafScanned (Now v) wanted at next seen.old seen.new result.code }
 {
-    let i = wire::byte_size(v);
+    let i = usize::from(v);
     if STREAMS_MOST <= i {
-        return refused(Fault::WrongField, at);
+        return Scanned::refused(Fault::WrongField, at);
     }
     let t = seen[i][SEEN_TYPE];
-    if t != wanted as u16 {
-        return refused(other_fault(t), at);
+    if t != u16::from(wanted) {
+        return Scanned::refused(other_fault(t), at);
     }
     note(seen, i, limits::RISE_OF_ZERO, limits::FALL_OF_ZERO);
-    Scanned { code: next }
+    Scanned::behind(next)
 }
 
 fn scan_at(
@@ -170,27 +187,22 @@ fn scan_at(
     at: usize,
     next: usize,
 ) -> Scanned
-    requires { CanNote wanted at }
-    ensures { LeafScanned (At v k word) wanted at next seen.old seen.new result }
+    requires { CanNote wanted at next }
+    ensures { LeafScanned (At v k word) wanted at next seen.old seen.new result.code }
 {
-    let i = wire::byte_size(v);
-    if STREAMS_MOST <= i {
-        return refused(Fault::WrongField, at);
-    }
-    if k == 0 {
-        return refused(Fault::WrongField, at);
+    let i = usize::from(v);
+    if STREAMS_MOST <= i || k == 0 {
+        return Scanned::refused(Fault::WrongField, at);
     }
     let t = seen[i][SEEN_TYPE];
-    if t == node::FLAG as u16 {
-        if 1 < word {
-            return refused(Fault::WrongField, at);
-        }
+    if t == u16::from(node::FLAG) && 1 < word {
+        return Scanned::refused(Fault::WrongField, at);
     }
-    if t != wanted as u16 {
-        return refused(other_fault(t), at);
+    if t != u16::from(wanted) {
+        return Scanned::refused(other_fault(t), at);
     }
     note(seen, i, rising_of(k), falling_of(k));
-    Scanned { code: next }
+    Scanned::behind(next)
 }
 
 // The node without operands that stands at `at`.
@@ -203,21 +215,21 @@ pub fn scan_leaf(
 ) -> Scanned
     requires { CanScan kinds.now seen.old table.now wanted at × (is_leaf_of (standing table.now at) ≡ true) }
     ensures { (ts : List ℕ) (l : ℕ) → Seen ts seen.old → Scanning (parse (l + 1) ts table.now wanted at)
-        table.now ts seen.old seen.new result }
+        table.now ts seen.old seen.new result.code }
 {
     let kind = table[at];
     let start = at + 1;
-    let body = node::body_of(kinds, wire::byte_size(kind));
+    let body = node::body_of(kinds, usize::from(kind));
     if table.len() - start < body {
-        return refused(Fault::Missing, at);
+        return Scanned::refused(Fault::Missing, at);
     }
     let node = node::node_of(table, kind, start);
-    let next = start + wire::byte_size(node::leaf_body(node));
+    let next = start + usize::from(node::leaf_body(node));
     match node {
         Node::Constant(t, word) => scan_constant(t, word, wanted, at, next),
         Node::Now(v) => scan_now(seen, v, wanted, at, next),
         Node::At(v, k, word) => scan_at(seen, v, k, word, wanted, at, next),
-        Node::Operator(_) => refused(Fault::WrongKind, at),
+        Node::Operator(_) => Scanned::refused(Fault::WrongKind, at),
     }
 }
 
@@ -233,22 +245,22 @@ pub fn scan_operator(
 ) -> Scanned
     requires { CanScan kinds.now seen.old table.now wanted at × ((is_leaf_of (standing table.now at) ≡ false) × (1 ≤ levels)) }
     ensures { (ts : List ℕ) → Seen ts seen.old → Scanning (parse levels ts table.now wanted at)
-        table.now ts seen.old seen.new result }
+        table.now ts seen.old seen.new result.code }
 {
     if table.len() <= at {
-        return refused(Fault::Missing, at);
+        return Scanned::refused(Fault::Missing, at);
     }
-    let op = wire::byte_size(table[at]);
+    let op = usize::from(table[at]);
     if KINDS_MOST <= op {
-        return refused(Fault::WrongKind, at);
+        return Scanned::refused(Fault::WrongKind, at);
     }
     let results = node::results_of(kinds, op);
     if (results >> wanted) % 2 == 0 {
-        return refused(node::result_fault(results), at);
+        return Scanned::refused(node::result_fault(results), at);
     }
     let next = at + 1;
     if levels == 1 {
-        return refused(node::deep_fault(table, kinds, next), next);
+        return Scanned::refused(node::deep_fault(table, kinds, next), next);
     }
     let operands = node::operands_of(kinds, op);
     let first = node::operand_of(kinds, op);
@@ -260,21 +272,19 @@ pub fn scan_operator(
     if operands == 1 || second.refuses() {
         return second;
     }
-    let second = second.code;
     let rest = node::rest_type(operands, first, wanted);
-    let third = if node::leaf_stands(table, second) {
-        scan_leaf(table, kinds, seen, rest, second)
+    let third = if node::leaf_stands(table, second.code) {
+        scan_leaf(table, kinds, seen, rest, second.code)
     } else {
-        scan_operator(table, kinds, seen, rest, second, levels - 1)
+        scan_operator(table, kinds, seen, rest, second.code, levels - 1)
     };
     if operands == 2 || third.refuses() {
         return third;
     }
-    let third = third.code;
-    if node::leaf_stands(table, third) {
-        scan_leaf(table, kinds, seen, rest, third)
+    if node::leaf_stands(table, third.code) {
+        scan_leaf(table, kinds, seen, rest, third.code)
     } else {
-        scan_operator(table, kinds, seen, rest, third, levels - 1)
+        scan_operator(table, kinds, seen, rest, third.code, levels - 1)
     }
 }
 
@@ -288,7 +298,7 @@ pub fn scan_expr(
 ) -> Scanned
     requires { CanScan kinds.now seen.old table.now wanted at }
     ensures { (ts : List ℕ) → Seen ts seen.old → Scanning (parse most_levels ts table.now wanted at)
-        table.now ts seen.old seen.new result }
+        table.now ts seen.old seen.new result.code }
 {
     if node::leaf_stands(table, at) {
         scan_leaf(table, kinds, seen, wanted, at)

@@ -1,7 +1,8 @@
 -- Document 01's number of each fault that the code names. Assumes nothing.
-use Rattle.std.specs.Prelude.{ℕ, ◌≡◌, Result, Ok, Err}
+use Rattle.std.specs.Prelude.{ℕ, ◌≡◌, ◌≤◌, ◌<◌, Result, Ok, Err}
 use Rattle.limits.specs.Refusals.{table_length, missing, wrong_kind, wrong_field, wrong_type, too_deep, wrong_loop, over_words, bytes_after, foreign_record, short_store, wrong_phase, row_limit, row_length_of, wrong_flag, short_output}
 use Rattle.limits.specs.declared.Fault.{Fault}
+use Rattle.limits.specs.declared.UnknownFault.{UnknownFault}
 use Rattle.limits.specs.declared.Refusal.{Refusal}
 use Rattle.limits.specs.declared.Fault.TheVariants.{TableLength, Missing, WrongKind, WrongField, WrongType, TooDeep, WrongLoop, OverWords, BytesAfter, ForeignRecord, ShortStore, WrongPhase, RowLimit, RowLength, WrongFlag, ShortOutput}
 
@@ -26,6 +27,11 @@ number_for ShortOutput = short_output
 -- what the conversion of a fault into a byte gives
 abbrev pub Numbers : Fault → ℕ → Type 0
 Numbers f n = n ≡ number_for f
+
+-- what that of a byte into a fault gives: only 0 and what is above 16 are no fault's number
+abbrev pub Named : ℕ → Result Fault UnknownFault → Type 0
+Named n (Ok f) = n ≡ number_for f
+Named n (Err _) = 1 ≤ n → 16 < n
 
 -- A definition gives the number of a fault, 0 where there is none: what a test answers that looks for it.
 abbrev pub Tested : Result (Unit {0}) Fault → ℕ → Type 0

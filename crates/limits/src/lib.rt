@@ -3,7 +3,7 @@
 #![tactic(auto)]
 
 ghost use Rattle.std.specs.Prelude.{◌≡◌};
-ghost use Rattle.limits.specs.Faults.{Numbers};
+ghost use Rattle.limits.specs.Faults.{Numbers, Named};
 
 // "table 1 to 4,096 bytes"
 pub const TABLE_LEAST: usize = 1;
@@ -84,6 +84,39 @@ impl From<Fault> for u8 {
 
     fn from(fault: Fault) -> u8 {
         fault as u8
+    }
+}
+
+// A byte that is no fault's number.
+#[derive(Clone, Copy, Debug, PartialEq, Eq)]
+pub struct UnknownFault(pub u8);
+
+// The fault of a number.
+impl TryFrom<u8> for Fault {
+    type Error = UnknownFault;
+
+    ghost try_from_gives = { Named };
+
+    fn try_from(number: u8) -> Result<Fault, UnknownFault> {
+        match number {
+            1 => Ok(Fault::TableLength),
+            2 => Ok(Fault::Missing),
+            3 => Ok(Fault::WrongKind),
+            4 => Ok(Fault::WrongField),
+            5 => Ok(Fault::WrongType),
+            6 => Ok(Fault::TooDeep),
+            7 => Ok(Fault::WrongLoop),
+            8 => Ok(Fault::OverWords),
+            9 => Ok(Fault::BytesAfter),
+            10 => Ok(Fault::ForeignRecord),
+            11 => Ok(Fault::ShortStore),
+            12 => Ok(Fault::WrongPhase),
+            13 => Ok(Fault::RowLimit),
+            14 => Ok(Fault::RowLength),
+            15 => Ok(Fault::WrongFlag),
+            16 => Ok(Fault::ShortOutput),
+            _ => Err(UnknownFault(number)),
+        }
     }
 }
 

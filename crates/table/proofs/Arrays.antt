@@ -27,6 +27,9 @@ pub zeros_left : {l : List ℕ} {i : ℕ} (x : ℕ) → ZeroFrom i l → ZeroFro
 zeros_left {l} {i} x z =
     record { zero_at = λ k h. get_or-set_other l i k x 0 (λ e. omega arith) ∙ z.zero_at k (omega arith) }
 
+pub zeros_after : {l : List ℕ} {i : ℕ} → ZeroFrom i l → ZeroFrom (i + 1) l
+zeros_after z = record { zero_at = λ k h. z.zero_at k (omega arith) }
+
 rest_is_zeros : (l : List ℕ) (n : ℕ) → length l ≡ most_streams → ZeroFrom n l → drop n l ≡ replicate (most_streams - n) 0
 rest_is_zeros l n h z =
     ext_get_or 0 (drop n l) (replicate (most_streams - n) 0) (rw (length-drop, length-replicate, h)) λ i lt.

@@ -1,4 +1,4 @@
--- The faults of the records that hold no expression: the first of two, their numbers, and what no fault tells.
+-- The faults of the records that hold no expression: their numbers, and what no fault tells.
 -- Assumes nothing.
 use mathlib.Core.Path.{◌≡◌, refl}
 use mathlib.Core.Bool.{Bool, true, false, cond}
@@ -33,16 +33,6 @@ output_body = refl
 pub equation_body : (rule_of 4).body ≡ 1
 unfolding rule_of rows look
 equation_body = refl
-
--- ---- the first of two faults
-
-pub next_of : {a x b : ℕ} → a ≡ x → a ≡ 0 → b ≡ first x b
-unfolding first
-next_of e z = rw (← e, eq-eqb _ _ z)
-
-pub here_of : {a x : ℕ} (b : ℕ) → a ≡ x → (a ≡ 0 → ⊥) → a ≡ first x b
-unfolding first
-here_of b e z = rw (← e, ne_eqb _ _ z)
 
 -- ---- numbers: no fault has one above 6
 
@@ -102,10 +92,21 @@ record_there s at k b =
 pub record_room : (s : List ℕ) (at k b : ℕ) → record_fault_of s at k b ≡ 0 → at + 1 + b ≤ length s
 record_room s at k b e = (record_there s at k b e).1
 
+-- what the test of a record tells of its bytes
+pub ruleset records = (record_room, edition_body, input_body, output_body, equation_body)
+
+pub input_room : (s : List ℕ) (at : ℕ) → input_fault_of s at ≡ 0 → at + 2 ≤ length s
+unfolding input_fault_of
+input_room s at e = omega (arith, record_room s at 2 1 (neither _ _ e).0)
+
+pub output_room : (s : List ℕ) (at : ℕ) → output_fault_of s at ≡ 0 → at + 3 ≤ length s
+unfolding output_fault_of
+output_room s at e = omega (arith, record_room s at 3 2 (neither _ _ e).0)
+
 pub stream_room : (side : ℕ) (s : List ℕ) (at : ℕ) → side ≤ 1 → stream_fault_of side s at ≡ 0 → at + 2 + side ≤ length s
-unfolding stream_fault_of input_fault_of output_fault_of
-stream_room zero s at h e = omega (arith, record_room s at 2 1 (neither _ _ e).0)
-stream_room (suc zero) s at h e = omega (arith, record_room s at 3 2 (neither _ _ e).0)
+unfolding stream_fault_of
+stream_room zero s at h e = omega (arith, input_room s at e)
+stream_room (suc zero) s at h e = omega (arith, output_room s at e)
 stream_room (suc (suc n)) s at h e = absurd (omega arith)
 
 pub equation_room : (s : List ℕ) (at y : ℕ) → equation_fault_of s at y ≡ 0 → at + 2 ≤ length s

@@ -1,19 +1,23 @@
 -- The streams' records, one after the other, and what holds of those that are declared.
 -- Assumes nothing.
-use mathlib.Core.Path.{◌≡◌, refl, sym, ap, ap₂}
+use mathlib.Core.Path.{◌≡◌, refl, sym, ap, ap₂, ◌∙◌}
 use mathlib.Core.Bool.{Bool, true, false}
 use mathlib.Core.List.{List, [], ◌∷◌, ◌++◌, append_assoc, append-nil}
 use Prim.Native.Nat.{ℕ, zero, suc, ◌+◌, ◌-◌, ◌≤◌, ◌<◌}
 use native.Mathlib.Omega.{arith}
 use native.Mathlib.Numerals.{add-one}
 use native.Mathlib.Nat.{pos_of_ne-zero}
-use borrow.Author.Tests.{eq-eqb, ne_eqb, eqb-true, eqb-false, leb-true}
+use borrow.Author.Tests.{eq-eqb, ne_eqb, lt-ltb, le-ltb, eqb-true, eqb-false, leb-true}
 use lib.Dec.{eqb, leb, ltb}
 use lib.ListN.{length, get_or, take, set}
 use lib.Seq.{take-suc-set}
+use Rattle.std.proofs.lemmas.List.{set-get_or}
+use Rattle.limits.specs.Faults.{number_for}
+use Rattle.limits.specs.declared.Fault.{Fault}
+use Rattle.limits.proofs.Faults.{number_some}
 use Rattle.limits.specs.Limits.{least_table, most_table}
 use Rattle.basis.proofs.Tests.{pick_case}
-use Rattle.table.specs.Records.{head_fault_of, side_of, stream_fault_of, role_at, behind, if_fine, Declared, declares, wrong, before, declared, heads}
+use Rattle.table.specs.Records.{head_fault_of, input_fault_of, output_fault_of, side_of, stream_fault_of, role_at, behind, if_fine, Declared, declares, wrong, before, declared, heads}
 use Rattle.table.specs.Sound.{RecordRefusal}
 use Rattle.table.proofs.Faults.{HeadFits, head_fits, head_low, head_room, StreamFits, stream_fits, stream_low, stream_room, input_role}
 
@@ -33,19 +37,51 @@ module _ (i : ℕ) (s : List ℕ) (at v to : ℕ) where
   unfolding declared
   streams_end ts rs h = let e : to - v ≡ 0 = omega arith in rw (e, append-nil ts, append-nil rs)
 
-  module _ {side f : ℕ} (h : v < to) (sd : side ≡ side_of i v) (p : f ≡ stream_fault_of side s at) where
-    pub streams_fault : (ts rs : List ℕ) → (f ≡ 0 → ⊥) → before ts rs (declared (to - v) i v s at) ≡ wrong f at
+  module _ {side : ℕ} (h : v < to) (sd : side_of i v ≡ side) where
+    streams_fault : {f : ℕ} → stream_fault_of side s at ≡ f → (f ≡ 0 → ⊥) → (ts rs : List ℕ) → before ts rs (declared (to - v) i v s at) ≡ wrong f at
     unfolding declared
-    streams_fault ts rs z = let e : to - v ≡ suc (to - (v + 1)) = omega arith in rw (e, ← sd, ← p, ne_eqb _ _ z)
+    streams_fault p z ts rs = let e : to - v ≡ suc (to - (v + 1)) = omega arith in rw (e, sd, p, ne_eqb _ _ z)
 
-    pub streams_more : (types roles : List ℕ) {role width : ℕ} → v < length types → v < length roles → f ≡ 0 → role ≡ role_at side s at → width ≡ side
-        → before (take (v + 1) (set types v (get_or s (at + 1) 0))) (take (v + 1) (set roles v role)) (declared (to - (v + 1)) i (v + 1) s (at + (width + 2)))
+    streams_more : stream_fault_of side s at ≡ 0 → (types roles : List ℕ) → v < length types → v < length roles
+        → before (take (v + 1) (set types v (get_or s (at + 1) 0))) (take (v + 1) (set roles v (role_at side s at))) (declared (to - (v + 1)) i (v + 1) s (behind side at))
         ≡ before (take v types) (take v roles) (declared (to - v) i v s at)
     unfolding declared
-    streams_more types roles {role} g k z r w =
+    streams_more p types roles g k =
         let e : to - v ≡ suc (to - (v + 1)) = omega arith in
-        let a : at + 2 + side ≡ at + (side + 2) = omega arith in
-        rw (e, ← sd, ← p, eq-eqb _ _ z, before_before, a, w, add-one v, take-suc-set types v (get_or s (at + 1) 0), take-suc-set roles v role, r)
+        rw (e, sd, eq-eqb _ _ p, before_before, add-one v, take-suc-set types v (get_or s (at + 1) 0), take-suc-set roles v (role_at side s at))
+
+  module _ (h : v < to) (l : v < i) where
+    an_input : side_of i v ≡ 0
+    unfolding side_of
+    an_input = rw (lt-ltb _ _ l)
+
+    pub input_wrong : (f : Fault) → input_fault_of s at ≡ number_for f → (ts rs : List ℕ) → before ts rs (declared (to - v) i v s at) ≡ wrong (number_for f) at
+    unfolding stream_fault_of
+    input_wrong f p ts rs = streams_fault h an_input p (number_some f) ts rs
+
+    -- its role is that of the array, which is 0
+    pub input_more : input_fault_of s at ≡ 0 → (types roles : List ℕ) → v < length types → v < length roles → get_or roles v 0 ≡ 0
+        → before (take (v + 1) (set types v (get_or s (at + 1) 0))) (take (v + 1) roles) (declared (to - (v + 1)) i (v + 1) s (at + 2)) ≡ before (take v types) (take v roles) (declared (to - v) i v s at)
+    unfolding stream_fault_of role_at
+    input_more p types roles g k z =
+        let e : set roles v 0 ≡ roles = ap (set roles v) (sym z) ∙ set-get_or roles v 0 in
+        let a : at + 2 + 0 ≡ at + 2 = omega arith in
+        rw (e, a) at (streams_more h an_input p types roles g k)
+
+  module _ (h : v < to) (l : i ≤ v) where
+    an_output : side_of i v ≡ 1
+    unfolding side_of
+    an_output = rw (le-ltb _ _ l)
+
+    pub output_wrong : (f : Fault) → output_fault_of s at ≡ number_for f → (ts rs : List ℕ) → before ts rs (declared (to - v) i v s at) ≡ wrong (number_for f) at
+    unfolding stream_fault_of
+    output_wrong f p ts rs = streams_fault h an_output p (number_some f) ts rs
+
+    pub output_more : output_fault_of s at ≡ 0 → (types roles : List ℕ) → v < length types → v < length roles
+        → before (take (v + 1) (set types v (get_or s (at + 1) 0))) (take (v + 1) (set roles v (get_or s (at + 2) 0))) (declared (to - (v + 1)) i (v + 1) s (at + 3))
+        ≡ before (take v types) (take v roles) (declared (to - v) i v s at)
+    unfolding stream_fault_of role_at
+    output_more p types roles g k = let a : at + 2 + 1 ≡ at + 3 = omega arith in rw a at (streams_more h an_output p types roles g k)
 
 -- what holds of both branches holds of the choice
 pub fine_case : {A : Type 0} (P : A → Type 0) (b : Bool) (f : Unit {0} → A) (x : A) → (b ≡ true → P (f tt)) → (b ≡ false → P x) → P (if_fine b f x)

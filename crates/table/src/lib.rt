@@ -3,14 +3,15 @@
 #![tactic(auto)]
 
 ghost use Rattle.std.specs.Prelude.{◌≡◌, List, ℕ, ◌+◌, ◌-◌, ◌≤◌, ◌<◌, length, get_or, take, replicate};
+ghost use Rattle.limits.specs.Faults.{Tested};
 ghost use Rattle.limits.specs.Limits.{most_streams};
 ghost use Rattle.node.specs.Kinds.{rule_of, many_kinds, Tabulated};
 ghost use Rattle.expression.specs.Seen.{Seen};
 ghost use Rattle.expression.specs.Scanning.{Scanning};
 ghost use Rattle.table.specs.Records.{record_fault_of, type_rule_of, role_rule_of, head_fault_of, input_fault_of, output_fault_of, equation_fault_of};
-ghost use Rattle.table.specs.Records.{side_of, stream_fault_of, role_at, wrong, declared, heads};
-ghost use Rattle.table.specs.Table.{equation_at, equations_at_of, refused, decode};
-ghost use Rattle.table.specs.Answers.{headed_of, Headings, CanScanEquation, CanScanEquations, solved_of, scan_of};
+ghost use Rattle.table.specs.Records.{declared, heads};
+ghost use Rattle.table.specs.Table.{equation_at, equations_at_of, decode};
+ghost use Rattle.table.specs.Answers.{Headings, CanScanEquation, CanScanEquations, Solves, Scans};
 
 use expression::{SEEN_ENTRIES, SEEN_TYPE, Scanned};
 use limits::{Fault, Refusal, STREAMS_MOST};
@@ -25,7 +26,8 @@ pub const OUTPUT_KIND: u8 = 3;
 
 pub const EQUATION_KIND: u8 = 4;
 
-// A record of the kind `kind` at `at`, whole.
+// A record of the kind `kind` stands at `at`, whole.
+#[tactic(auto, unfolding(crate::specs::Records::record_fault_of))]
 fn test_record(
     table: &[u8],
     kinds: &[[u8; ENTRIES]; KINDS_MOST],
@@ -48,28 +50,30 @@ fn test_record(
     Ok(())
 }
 
-// Fields are out of their rule where the test of it fails.
-fn test_field(holds: bool) -> Result<(), Fault>
-    ensures { Tested result (cond holds 0 wrong_field) }
-{
-    if holds { Ok(()) } else { Err(Fault::WrongField) }
-}
-
+// A type.
+#[tactic(auto, unfolding(crate::specs::Records::type_rule_of))]
 fn test_type(t: u8) -> Result<(), Fault>
     ensures { Tested result (type_rule_of t) }
 {
-    test_field(t <= 2)
+    if 2 < t {
+        return Err(Fault::WrongField);
+    }
+    Ok(())
 }
 
+// The role of a stream of the type t; only a flag can be a trigger.
+#[tactic(auto, unfolding(crate::specs::Records::role_rule_of))]
 fn test_role(t: u8, role: u8) -> Result<(), Fault>
     ensures { Tested result (role_rule_of t role) }
 {
-    if 1 < role {
+    if 1 < role || (role != 0 && t != node::FLAG) {
         return Err(Fault::WrongField);
     }
-    test_field(role == 0 || t == node::FLAG)
+    Ok(())
 }
 
+// The record before all others.
+#[tactic(auto, using(crate::proofs::Faults::records), unfolding(crate::specs::Records::head_fault_of, node::specs::Node::first))]
 fn test_head(table: &[u8], kinds: &[[u8; ENTRIES]; KINDS_MOST]) -> Result<(), Fault>
     requires { Tabulated kinds.now }
     ensures { Tested result (head_fault_of table.now) }
@@ -77,9 +81,14 @@ fn test_head(table: &[u8], kinds: &[[u8; ENTRIES]; KINDS_MOST]) -> Result<(), Fa
     test_record(table, kinds, 0, EDITION_KIND)?;
     let inputs = usize::from(table[2]);
     let outputs = usize::from(table[3]);
-    test_field(table[1] == 1 && inputs != 0 && outputs != 0 && inputs + outputs <= STREAMS_MOST)
+    if table[1] != 1 || inputs == 0 || outputs == 0 || STREAMS_MOST < inputs + outputs {
+        return Err(Fault::WrongField);
+    }
+    Ok(())
 }
 
+// An input's record.
+#[tactic(auto, using(crate::proofs::Faults::records), unfolding(crate::specs::Records::input_fault_of, node::specs::Node::first))]
 fn test_input(table: &[u8], kinds: &[[u8; ENTRIES]; KINDS_MOST], at: usize) -> Result<(), Fault>
     requires { Tabulated kinds.now }
     ensures { Tested result (input_fault_of table.now at) }
@@ -88,6 +97,8 @@ fn test_input(table: &[u8], kinds: &[[u8; ENTRIES]; KINDS_MOST], at: usize) -> R
     test_type(table[at + 1])
 }
 
+// An output's record.
+#[tactic(auto, using(crate::proofs::Faults::records), unfolding(crate::specs::Records::output_fault_of, node::specs::Node::first))]
 fn test_output(table: &[u8], kinds: &[[u8; ENTRIES]; KINDS_MOST], at: usize) -> Result<(), Fault>
     requires { Tabulated kinds.now }
     ensures { Tested result (output_fault_of table.now at) }
@@ -99,6 +110,7 @@ fn test_output(table: &[u8], kinds: &[[u8; ENTRIES]; KINDS_MOST], at: usize) -> 
 }
 
 // The record before the expression of the stream `stream`.
+#[tactic(auto, using(crate::proofs::Faults::records), unfolding(crate::specs::Records::equation_fault_of, node::specs::Node::first))]
 pub fn test_equation(
     table: &[u8],
     kinds: &[[u8; ENTRIES]; KINDS_MOST],
@@ -109,39 +121,10 @@ pub fn test_equation(
     ensures { Tested result (equation_fault_of table.now at stream) }
 {
     test_record(table, kinds, at, EQUATION_KIND)?;
-    test_field(usize::from(table[at + 1]) == stream)
-}
-
-// An input's record has its type, an output's its type and its role.
-#[derive(Clone, Copy, Debug, PartialEq, Eq)]
-enum Side {
-    Input,
-    Output,
-}
-
-fn side_of(inputs: usize, stream: usize) -> Side
-    ensures { side_number result ≡ side_of inputs stream }
-{
-    if stream < inputs {
-        Side::Input
-    } else {
-        Side::Output
+    if usize::from(table[at + 1]) != stream {
+        return Err(Fault::WrongField);
     }
-}
-
-fn test_stream(
-    table: &[u8],
-    kinds: &[[u8; ENTRIES]; KINDS_MOST],
-    at: usize,
-    side: Side,
-) -> Result<(), Fault>
-    requires { Tabulated kinds.now }
-    ensures { Tested result (stream_fault_of (side_number side) table.now at) }
-{
-    match side {
-        Side::Input => test_input(table, kinds, at),
-        Side::Output => test_output(table, kinds, at),
-    }
+    Ok(())
 }
 
 // All that stands before the first equation, which starts at `place`.
@@ -161,24 +144,23 @@ fn scan_streams(
     types: &mut [u8; STREAMS_MOST],
     roles: &mut [u8; STREAMS_MOST],
 ) -> Result<Heading, Refusal>
-    requires { (streams ≤ most_streams) × (types.old ≡ replicate most_streams 0) × (roles.old ≡ replicate most_streams 0) × Tabulated kinds.now }
+    requires { (inputs ≤ streams) × (streams ≤ most_streams) × (types.old ≡ replicate most_streams 0) × (roles.old ≡ replicate most_streams 0) × Tabulated kinds.now }
     ensures { Headings inputs (declared streams inputs 0 table.now 4) result types.new roles.new }
 {
-    let mut next = 4;
-    for v in 0..streams {
-        let side = side_of(inputs, v);
-        if let Err(fault) = test_stream(table, kinds, next, side) {
-            return Err(Refusal { fault, place: next });
-        }
-        types[v] = table[next + 1];
-        if side == Side::Output {
-            roles[v] = table[next + 2];
-            next += 1;
-        }
-        next += 2;
+    let mut place = 4;
+    for v in 0..inputs {
+        test_input(table, kinds, place).map_err(|fault| fault.at(place))?;
+        types[v] = table[place + 1];
+        place += 2;
+    }
+    for y in inputs..streams {
+        test_output(table, kinds, place).map_err(|fault| fault.at(place))?;
+        types[y] = table[place + 1];
+        roles[y] = table[place + 2];
+        place += 3;
     }
     Ok(Heading {
-        place: next,
+        place,
         inputs,
         streams,
     })
@@ -194,16 +176,10 @@ pub fn scan_heading(
     requires { (types.old ≡ replicate most_streams 0) × (roles.old ≡ replicate most_streams 0) × Tabulated kinds.now }
     ensures { Headings (get_or table.now 2 0) (heads table.now) result types.new roles.new }
 {
-    let length = table.len();
-    if length < limits::TABLE_LEAST || limits::TABLE_MOST < length {
-        return Err(Refusal {
-            fault: Fault::TableLength,
-            place: 0,
-        });
+    if table.len() < limits::TABLE_LEAST || limits::TABLE_MOST < table.len() {
+        return Err(Fault::TableLength.at(0));
     }
-    if let Err(fault) = test_head(table, kinds) {
-        return Err(Refusal { fault, place: 0 });
-    }
+    test_head(table, kinds).map_err(|fault| fault.at(0))?;
     let inputs = usize::from(table[2]);
     let streams = inputs + usize::from(table[3]);
     scan_streams(table, kinds, inputs, streams, types, roles)
@@ -220,10 +196,10 @@ pub fn scan_equation(
 ) -> Scanned
     requires { CanScanEquation kinds.now seen.old table.now y at }
     ensures { (ts : List ℕ) → Seen ts seen.old → Scanning (equation_at ts table.now y at)
-        table.now ts seen.old seen.new result }
+        table.now ts seen.old seen.new result.code }
 {
     if let Err(fault) = test_equation(table, kinds, at, y) {
-        return expression::refused(fault, at);
+        return Scanned::refused(fault, at);
     }
     let wanted = seen[y][SEEN_TYPE] as u8;
     expression::scan_expr(table, kinds, seen, wanted, at + 2)
@@ -283,10 +259,7 @@ pub fn scan_table(table: &[u8]) -> Result<Scan, Refusal>
     let streams = heading.streams;
     let solved = scan_equations(table, &kinds, &types, inputs, streams, heading.place)?;
     if solved.place != table.len() {
-        return Err(Refusal {
-            fault: Fault::BytesAfter,
-            place: solved.place,
-        });
+        return Err(Fault::BytesAfter.at(solved.place));
     }
     let starts = solved.starts;
     Ok(Scan {

@@ -19,29 +19,29 @@ can_next c h x small e = can_rest h c.wants c x.left e (scan_ended c.few x small
 
 -- ---- what is known once the operator is read
 
-is_here : (t : ℕ) (c : After-operand_of-first t) → (ts : List ℕ) → Here c.args.levels ts c.args.table.now c.args.wanted c.args.at c.byte_size-op.result c.operands_of-operands.result c.operand_of-first.result
-is_here t c = λ ts. here _ ts _ _ _ c.requires.1.0 c.requires.1.1 c.requires.0.wants c.if-table-at.false c.byte_size-op.ensures.0 c.if-op-ge-KINDS_MOST.false c.results_of-results.ensures c.if-results-wanted-eq0.false c.operands_of-operands.ensures c.operand_of-first.ensures
+is_here : (t : ℕ) (c : After-operand_of-first t) → (ts : List ℕ) → Here c.args.levels ts c.args.table.now c.args.wanted c.args.at c.from-op.result c.operands_of-operands.result c.operand_of-first.result
+is_here t c = λ ts. here _ ts _ _ _ c.requires.1.0 c.requires.1.1 c.requires.0.wants c.if-table-at.false c.from-op.ensures c.if-op-ge-KINDS_MOST.false c.results_of-results.ensures c.if-results-wanted-eq0.false c.operands_of-operands.ensures c.operand_of-first.ensures
 
 -- ---- once its first operand is read
 
-first_scan : (t : ℕ) (c : Joined-leaf_stands t) → (ts : List ℕ) → Seen ts c.args.seen.now → Scanning (parse (c.args.levels - 1) ts c.args.table.now c.operand_of-first.result (c.args.at + 1)) c.args.table.now ts c.args.seen.now c.if-leaf_stands.seen c.if-leaf_stands.second
+first_scan : (t : ℕ) (c : Joined-leaf_stands t) → (ts : List ℕ) → Seen ts c.args.seen.now → Scanning (parse (c.args.levels - 1) ts c.args.table.now c.operand_of-first.result (c.args.at + 1)) c.args.table.now ts c.args.seen.now c.if-leaf_stands.seen c.if-leaf_stands.second.code
 first_scan t c = λ ts x. elim c.if-leaf_stands.branch [
   | then-leaf_stands w ↦ rw (w.seen-is, w.second-is) (at_level _ _ _ (omega (arith, c.requires.1.1, c.if-levels-eq1.false)) (λ m. w.scan_leaf-second.ensures ts m x))
   | else-leaf_stands w ↦ rw (w.seen-is, w.second-is) (w.scan_operator-second.ensures ts x)
 ]
 
-second_small : (t : ℕ) (c : Else-refuses t) → c.if-leaf_stands.second < places
+second_small : (t : ℕ) (c : Else-refuses t) → c.if-leaf_stands.second.code < places
 second_small t c = leb-false _ _ (sym c.refuses.ensures ∙ c.if-refuses.false)
 
 -- ---- once its second operand is read
 
-second_scan : (t : ℕ) (c : Joined-leaf_stands-2 t) → (ts : List ℕ) → Seen ts c.if-leaf_stands.seen → Scanning (parse (c.args.levels - 1) ts c.args.table.now c.rest_type-rest.result c.if-leaf_stands.second) c.args.table.now ts c.if-leaf_stands.seen c.if-leaf_stands-2.seen c.if-leaf_stands-2.third
+second_scan : (t : ℕ) (c : Joined-leaf_stands-2 t) → (ts : List ℕ) → Seen ts c.if-leaf_stands.seen → Scanning (parse (c.args.levels - 1) ts c.args.table.now c.rest_type-rest.result c.if-leaf_stands.second.code) c.args.table.now ts c.if-leaf_stands.seen c.if-leaf_stands-2.seen c.if-leaf_stands-2.third.code
 second_scan t c = λ ts x. elim c.if-leaf_stands-2.branch [
   | then-leaf_stands-2 w ↦ rw (w.seen-is, w.third-is) (at_level _ _ _ (omega (arith, c.requires.1.1, c.if-levels-eq1.false)) (λ m. w.scan_leaf-third.ensures ts m x))
   | else-leaf_stands-2 w ↦ rw (w.seen-is, w.third-is) (w.scan_operator-third.ensures ts x)
 ]
 
-third_small : (t : ℕ) (c : Else-refuses-2 t) → c.if-leaf_stands-2.third < places
+third_small : (t : ℕ) (c : Else-refuses-2 t) → c.if-leaf_stands-2.third.code < places
 third_small t c = leb-false _ _ (sym c.refuses-else-operands-eq2.ensures ∙ c.if-refuses-2.false)
 
 pub refused-requires : goal.refused-requires
@@ -54,7 +54,7 @@ pub refused-requires-then-op-ge-KINDS_MOST : goal.refused-requires-then-op-ge-KI
 refused-requires-then-op-ge-KINDS_MOST t c = omega (arith, c.requires.0.place, c.requires.0.few)
 
 pub returns-then-op-ge-KINDS_MOST : goal.returns-then-op-ge-KINDS_MOST
-returns-then-op-ge-KINDS_MOST t c = λ ts x. rw c.refused-then-op-ge-KINDS_MOST.ensures (strange_here _ ts _ _ _ x c.requires.0.place c.if-table-at.false c.byte_size-op.ensures.0 c.if-op-ge-KINDS_MOST.true)
+returns-then-op-ge-KINDS_MOST t c = λ ts x. rw c.refused-then-op-ge-KINDS_MOST.ensures (strange_here _ ts _ _ _ x c.requires.0.place c.if-table-at.false c.from-op.ensures c.if-op-ge-KINDS_MOST.true)
 
 pub results_of-results-requires : goal.results_of-results-requires
 results_of-results-requires t c = (c.if-op-ge-KINDS_MOST.false, c.requires.0.tabulated)
@@ -66,7 +66,7 @@ pub refused-requires-then-results-wanted-eq0 : goal.refused-requires-then-result
 refused-requires-then-results-wanted-eq0 t c = omega (arith, c.requires.0.place, c.requires.0.few)
 
 pub returns-then-results-wanted-eq0 : goal.returns-then-results-wanted-eq0
-returns-then-results-wanted-eq0 t c = λ ts x. rw (c.refused-then-results-wanted-eq0.ensures, c.result_fault.ensures) (other_here _ ts _ _ _ x c.requires.0.place c.if-table-at.false c.byte_size-op.ensures.0 c.requires.1.0 c.requires.1.1 c.requires.0.wants c.if-op-ge-KINDS_MOST.false c.results_of-results.ensures c.if-results-wanted-eq0.true)
+returns-then-results-wanted-eq0 t c = λ ts x. rw (c.refused-then-results-wanted-eq0.ensures, c.result_fault.ensures) (other_here _ ts _ _ _ x c.requires.0.place c.if-table-at.false c.from-op.ensures c.requires.1.0 c.requires.1.1 c.requires.0.wants c.if-op-ge-KINDS_MOST.false c.results_of-results.ensures c.if-results-wanted-eq0.true)
 
 pub deep_fault-requires : goal.deep_fault-requires
 deep_fault-requires t c = c.requires.0.tabulated
@@ -75,7 +75,7 @@ pub refused-requires-then-levels-eq1 : goal.refused-requires-then-levels-eq1
 refused-requires-then-levels-eq1 t c = omega (arith, c.if-table-at.false, c.requires.0.few)
 
 pub returns-then-levels-eq1 : goal.returns-then-levels-eq1
-returns-then-levels-eq1 t c = λ ts x. rw c.refused-then-levels-eq1.ensures (deep_gives (here _ ts _ _ _ c.requires.1.0 c.requires.1.1 c.requires.0.wants c.if-table-at.false c.byte_size-op.ensures.0 c.if-op-ge-KINDS_MOST.false c.results_of-results.ensures c.if-results-wanted-eq0.false refl refl) c.requires.0.wants c.if-levels-eq1.true c.deep_fault.ensures x)
+returns-then-levels-eq1 t c = λ ts x. rw c.refused-then-levels-eq1.ensures (deep_gives (here _ ts _ _ _ c.requires.1.0 c.requires.1.1 c.requires.0.wants c.if-table-at.false c.from-op.ensures c.if-op-ge-KINDS_MOST.false c.results_of-results.ensures c.if-results-wanted-eq0.false refl refl) c.requires.0.wants c.if-levels-eq1.true c.deep_fault.ensures x)
 
 pub operands_of-operands-requires : goal.operands_of-operands-requires
 operands_of-operands-requires t c = (c.if-op-ge-KINDS_MOST.false, c.requires.0.tabulated)

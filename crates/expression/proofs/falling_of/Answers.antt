@@ -4,16 +4,6 @@ use mir.Facts.{to_z-of_z}
 use Rattle.expression.proofs.Measures.{wider, falling_counted}
 use Rattle.expression.proofs.falling_of.Goals as goal
 
-pub overflow_cast-result : goal.overflow_cast-result
-overflow_cast-result c = rw (to_z-of_z c.ranges.k) (wider _ c.ranges.k)
-
-pub overflow_sub-result : goal.overflow_sub-result
-overflow_sub-result c = rw (to_z-of_z c.ranges.k, to_z-of_z (wider _ c.ranges.k)) (falling_counted _ c.ranges.k).fits
-
-pub overflow_cast-result-2 : goal.overflow_cast-result-2
-overflow_cast-result-2 c = let r = falling_counted _ c.ranges.k in
-    rw (to_z-of_z c.ranges.k, to_z-of_z (wider _ c.ranges.k), to_z-of_z r.fits) (r.natural, r.narrow)
-
 pub returns : goal.returns
 returns c = let r = falling_counted _ c.ranges.k in
-    rw (to_z-of_z c.ranges.k, to_z-of_z (wider _ c.ranges.k), to_z-of_z r.fits) r.is
+    rw (c.from.ensures, to_z-of_z c.ranges.k, to_z-of_z (wider _ c.ranges.k), to_z-of_z r.fits) r.is

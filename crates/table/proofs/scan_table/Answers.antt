@@ -1,13 +1,17 @@
--- `table::scan_table` meets its contract.
+-- `scan_table`: the heading, the equations, the table's end.
 -- Assumes nothing.
-use mathlib.Core.Path.{sym, ap, ◌∙◌}
+use Rattle.std.proofs.lemmas.Result.{err_from_is_err_and}
 use native.Mathlib.Omega.{arith}
-use Rattle.table.proofs.Decoding.{opens, opened_few, opened_array, opened_typed, opened_within, decode_unheaded, scan_unfit, scan_more, scan_accepted}
-use Rattle.table.specs.Answers.{scan_of}
+use Rattle.table.proofs.Decoding.{opens, opened_few, opened_array, opened_typed, opened_within, decode_unheaded, scan_refused, scan_unfit, scan_more, scan_accepted}
 use Rattle.table.proofs.scan_table.Goals as goal
 
-pub scan_equations-q-requires : goal.scan_equations-q-requires
-scan_equations-q-requires c = let o = opens _ c.scan_heading-h.ensures c.if-h-eq0.true in record {
+pub returns-in_err-heading : goal.returns-in_err-heading
+returns-in_err-heading c =
+    let w = err_from_is_err_and c.from_residual.result c.from_residual.ensures.1 in
+    rw (w.1, w.2) (scan_refused _ _ (decode_unheaded _ c.in_err-heading.ensures))
+
+pub scan_equations-requires : goal.scan_equations-requires
+scan_equations-requires c = let o = opens _ c.in_ok-heading.ensures in record {
   tabulated = c.kind_table-kinds.ensures;
   few = o.fits.bytes.1;
   place = opened_within o;
@@ -17,14 +21,13 @@ scan_equations-q-requires c = let o = opens _ c.scan_heading-h.ensures c.if-h-eq
   typed = opened_typed o;
 }
 
-pub returns-then-q-table : goal.returns-then-q-table
-returns-then-q-table c = scan_accepted (opens _ c.scan_heading-h.ensures c.if-h-eq0.true) c.scan_equations-q.ensures c.if-q-eq0.true c.if-q-table.true
+pub returns-in_err-solved : goal.returns-in_err-solved
+returns-in_err-solved c =
+    let w = err_from_is_err_and c.from_residual-in_err-solved.result c.from_residual-in_err-solved.ensures.1 in
+    rw (w.1, w.2) (scan_unfit (opens _ c.in_ok-heading.ensures) _ c.in_err-solved.ensures)
 
-pub returns-else-q-table : goal.returns-else-q-table
-returns-else-q-table c = c.refusal.ensures ∙ scan_more (opens _ c.scan_heading-h.ensures c.if-h-eq0.true) c.scan_equations-q.ensures c.if-q-eq0.true c.if-q-table.false
+pub returns-then-solved-table : goal.returns-then-solved-table
+returns-then-solved-table c = rw c.at.ensures (scan_more (opens _ c.in_ok-heading.ensures) _ c.in_ok-solved.ensures c.if-solved-table.true)
 
-pub returns-else-q-eq0 : goal.returns-else-q-eq0
-returns-else-q-eq0 c = c.refusal-else-q-eq0.ensures ∙ scan_unfit (opens _ c.scan_heading-h.ensures c.if-h-eq0.true) c.scan_equations-q.ensures c.if-q-eq0.false
-
-pub returns-else-h-eq0 : goal.returns-else-h-eq0
-returns-else-h-eq0 c = c.refusal-else-h-eq0.ensures ∙ ap scan_of (sym (decode_unheaded _ c.scan_heading-h.ensures c.if-h-eq0.false))
+pub returns : goal.returns
+returns c = scan_accepted (opens _ c.in_ok-heading.ensures) _ c.in_ok-solved.ensures c.if-solved-table.false
