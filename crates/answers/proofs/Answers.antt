@@ -36,21 +36,25 @@ pub text_for : (r : Run) (o : Result ℕ Refusal) (out : List ℕ) → answer_te
 text_for r (Ok count) out = accepted_text 0 (take count out) refl
 text_for r (Err e) out = refused_text e.place [] (number_some e.fault)
 
-pub room_for : (r : Run) (o : Result ℕ Refusal) {out text : List ℕ} {at : ℕ} → length out ≡ most_room → (with_outcome r o).count ≤ most_room → at + most_text ≤ length text → Fits o out text at
-room_for r (Ok count) l h k = ((omega arith, omega arith), omega arith)
-room_for r (Err e) l h k = (tt, omega arith)
+pub room_for : (r : Run) (o : Result ℕ Refusal) (out text : List ℕ) (at : ℕ) → length out ≡ most_room → (with_outcome r o).count ≤ most_room → at + most_text ≤ length text → Fits o out text at
+room_for r (Ok count) out text at l h k = ((omega arith, omega arith), omega arith)
+room_for r (Err e) out text at l h k = (tt, omega arith)
+
+run_kept : (r : Run) (o : Result ℕ Refusal) → r ≡ (with_outcome r o).run
+run_kept r (Ok count) = refl
+run_kept r (Err e) = refl
 
 -- what a call left, and its text
-pub reached_by : {x : After} {r : Run} {o : Result ℕ Refusal} {st out before after : List ℕ} {at end : ℕ} → Leaves x (with_outcome r o) st out → Wrote before at (outcome_text o out) after end
-    → Reached (onward x []) (with_outcome r o).run st before at after end
-reached_by {x} {r} {o} {st} {out} l w = record {
-  run_is = ap (λ (b : Answer). b.run) l.answer_is;
+pub reached_by : (r : Run) (o : Result ℕ Refusal) {x : After} {st out before after : List ℕ} {at end : ℕ} → Leaves x (with_outcome r o) st out → Wrote before at (outcome_text o out) after end
+    → Reached (onward x []) r st before at after end
+reached_by r o {x} {st} {out} l w = record {
+  run_is = run_kept r o ∙ ap (λ (b : Answer). b.run) l.answer_is;
   store_is = l.store_is;
-  wrote = wrote_as (text_is l) w;
+  wrote = wrote_as text_is w;
 }
   where
-    text_is : Leaves x (with_outcome r o) st out → [] ++ text_of x ≡ outcome_text o out
-    text_is l = rw (← l.answer_is, ← l.output_is) (text_for r o out)
+    text_is : [] ++ text_of x ≡ outcome_text o out
+    text_is = rw (← l.answer_is, ← l.output_is) (text_for r o out)
 
 -- The bytes that a call gave lie within the output that was lent, for that keeps its length.
 bytes_within : (bytes out : List ℕ) → length (overwritten bytes out) ≡ length out → length bytes ≤ length out

@@ -8,6 +8,7 @@ use Rattle.monitor.specs.declared.Run.{Run}
 use Rattle.monitor.specs.declared.Answer as code
 use Rattle.monitor.specs.declared.Phase.{Phase}
 use Rattle.monitor.specs.declared.Phase.TheVariants.{Reading, Draining, Over}
+use Rattle.monitor.specs.Phases.{byte_of}
 use Rattle.monitor.specs.Refusals.{fault, after_table}
 use Rattle.monitor.specs.Calls.{Answer, answered, After, open_call, row_call_of, close_call, drain_call_of}
 use Rattle.dock.specs.declared.Record.{Record}
@@ -24,12 +25,7 @@ draining_byte = 1
 abbrev pub over_byte : ℕ
 over_byte = 2
 
--- the phase as a byte
-unfoldable pub number_of : Phase → ℕ
-number_of Reading = reading_byte
-number_of Draining = draining_byte
-number_of Over = over_byte
-
+-- the phase of a byte; the byte of a phase is `byte_of`
 unfoldable pub phase_for : ℕ → Phase
 phase_for n = cond (eqb n reading_byte) Reading (cond (eqb n draining_byte) Draining Over)
 
@@ -38,7 +34,7 @@ abbrev pub run_of : Record → Run
 run_of d = record { look = d.look; kept = d.kept; rows = d.rows; phase = phase_for d.phase; done = d.done }
 
 abbrev pub record_of : Run → Record
-record_of r = record { look = r.look; kept = r.kept; rows = r.rows; done = r.done; phase = number_of r.phase }
+record_of r = record { look = r.look; kept = r.kept; rows = r.rows; done = r.done; phase = byte_of r.phase }
 
 abbrev pub reply_for : Answer → Reply
 reply_for a = record { held = record_of a.run; told = record { number = a.number; place = a.place; count = a.count } }

@@ -11,8 +11,8 @@ use Rattle.answers.proofs.answer_row.Goals as goal
 
 pub put_answer-end-requires : goal.put_answer-end-requires
 put_answer-end-requires c = let e : length c.row-answer.new.out ≡ most_room = search rules in
-    room_for c.row-answer.result.run _ e (row_count _ _ _ _ _ e c.row-answer.ensures) (omega arith)
+    room_for c.row-answer.result.run _ _ _ _ e (row_count _ _ _ _ _ e c.row-answer.ensures) (omega arith)
 
 pub returns : goal.returns
 returns c = let w : c.row_words.new.words ≡ words_at c.args.row.now 0 c.args.inputs = words_long _ _ c.row_words.ensures (search rules) in
-    reached_by (rw w at c.row-answer.ensures) c.put_answer-end.ensures
+    reached_by c.row-answer.result.run _ (rw w at c.row-answer.ensures) c.put_answer-end.ensures

@@ -9,7 +9,7 @@ use Rattle.answers.proofs.drain_turn.Goals as goal
 
 pub put_answer-end-requires : goal.put_answer-end-requires
 put_answer-end-requires c = let e : length c.drain-answer.new.out ≡ most_room = search rules in
-    room_for c.drain-answer.result.run _ e (drain_count _ _ _ _ e c.drain-answer.ensures) (omega arith)
+    room_for c.drain-answer.result.run _ _ _ _ e (drain_count _ _ _ _ e c.drain-answer.ensures) (omega arith)
 
 pub returns : goal.returns
-returns c = reached_by c.drain-answer.ensures c.put_answer-end.ensures
+returns c = reached_by c.drain-answer.result.run _ c.drain-answer.ensures c.put_answer-end.ensures
