@@ -40,7 +40,7 @@ pub room_for : (r : Run) (o : Result ℕ Refusal) (out text : List ℕ) (at : �
 room_for r (Ok count) out text at l h k = ((omega arith, omega arith), omega arith)
 room_for r (Err e) out text at l h k = (tt, omega arith)
 
-run_kept : (r : Run) (o : Result ℕ Refusal) → r ≡ (with_outcome r o).run
+pub run_kept : (r : Run) (o : Result ℕ Refusal) → r ≡ (with_outcome r o).run
 run_kept r (Ok count) = refl
 run_kept r (Err e) = refl
 

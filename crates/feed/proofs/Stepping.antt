@@ -13,7 +13,6 @@ use Rattle.basis.proofs.Tests.{true_false}
 use Rattle.lines.specs.Lines.{stop_line}
 use Rattle.lines.proofs.Lengths.{wrote_within}
 use Rattle.monitor.specs.declared.Run.{Run}
-use Rattle.monitor.specs.Calls.{Answer}
 use Rattle.monitor.specs.Calls.{close_call}
 use Rattle.answers.specs.Rows.{after_drains}
 use Rattle.feed.specs.declared.Stage.{Stage}
@@ -90,8 +89,8 @@ reads_some Shut f = absurd (f refl)
 pub some_one : {c d : Turning} → Some c ≡ Some d → c ≡ d
 some_one e = cc
 
-module _ {run : Run} {n have : ℕ} {table : List ℕ} {a : Answer} (c : a ≡ (close_call (take n table) run).answer) where
-  closed_at : {b store part said text : List ℕ} → AtRows b run table store part n have said → text ≡ part_line have (length b) → AtClosing b a.run table store n (said ++ text)
+module _ {run run1 : Run} {n have : ℕ} {table : List ℕ} (c : run1 ≡ (close_call (take n table) run).answer.run) where
+  closed_at : {b store part said text : List ℕ} → AtRows b run table store part n have said → text ≡ part_line have (length b) → AtClosing b run1 table store n (said ++ text)
   unfolding after_drains
   closed_at {b} {store} {part} {said} {text} x e =
       record {
@@ -103,7 +102,7 @@ module _ {run : Run} {n have : ℕ} {table : List ℕ} {a : Answer} (c : a ≡ (
         come_is = rw (c, e, x.counted);
       }
 
-  pub closes_with : {read at : ℕ} {text1 : List ℕ} → at ≤ length text1 → (take at text1 ≡ part_line have read) → Closes run read n have table (record { left = Some (record { size = n; run = a.run }); at = at }) text1
+  pub closes_with : {read at : ℕ} {text1 : List ℕ} → at ≤ length text1 → (take at text1 ≡ part_line have read) → Closes run read n have table (record { left = Some (record { size = n; run = run1 }); at = at }) text1
   closes_with {at = at} {text1} f w store part =
       record {
         fits = f;
@@ -111,11 +110,11 @@ module _ {run : Run} {n have : ℕ} {table : List ℕ} {a : Answer} (c : a ≡ (
       }
 
   -- a part row has its line, a whole one none
-  pub closes_whole : {read at : ℕ} {text1 : List ℕ} → have ≡ 0 → at ≡ 0 → Closes run read n have table (record { left = Some (record { size = n; run = a.run }); at = at }) text1
+  pub closes_whole : {read at : ℕ} {text1 : List ℕ} → have ≡ 0 → at ≡ 0 → Closes run read n have table (record { left = Some (record { size = n; run = run1 }); at = at }) text1
   closes_whole z e = rw e (closes_with (omega arith) (rw z))
 
   pub closes_part : {read : ℕ} {text text1 text2 : List ℕ} {at end : ℕ} → (have ≡ 0 → ⊥) → Wrote text 0 (stop_line read) text1 at → text2 ≡ text1 → end ≡ at
-      → Closes run read n have table (record { left = Some (record { size = n; run = a.run }); at = end }) text2
+      → Closes run read n have table (record { left = Some (record { size = n; run = run1 }); at = end }) text2
   closes_part z w t e = rw (t, e) (closes_with (wrote_within (omega arith) w) (w.front ∙ rw (ne_eqb _ _ z)))
 
 reads_on : {other stage : Stage} {X : Type 0} → other ≡ stage → reading stage ≡ true → reading other ≡ false → X
