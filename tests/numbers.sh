@@ -7,11 +7,11 @@ set -e
 out=target/tests
 mkdir -p "$out"
 
-# Where constants and definitions are. Each `pub const` and each `pub` number of these files needs a row below.
+# Where constants and definitions are. Each `pub const`, each number of an enum's case and each `pub` number of these files needs a row below.
 code="crates/limits/src/lib.rt crates/records/src/lib.rt"
 definitions="crates/limits/specs/Limits.antt crates/limits/specs/Refusals.antt crates/records/specs/Kinds.antt"
 
-# The header's name less GLASSPUDDLE_, the constant, the definition; `-` where there is none, `-name` for a number's opposite.
+# The header's name less GLASSPUDDLE_, the constant or the case, the definition; `-` where there is none, `-name` for a number's opposite.
 # Each name of the header needs a row.
 table() {
     cat << 'END'
@@ -26,27 +26,26 @@ OFFSET_MOST             AHEAD_MOST      most_ahead
 STORE_MOST              STORE_MOST      most_words
 ROWS_MOST               ROWS_MOST       most_rows
 CLOSING_MOST            -               most_look
--                       PAIRS_MOST      most_pairs
 -                       RISE_OF_ZERO    rise_of_zero
 -                       FALL_OF_ZERO    fall_of_zero
 -                       -               most_note
 ACCEPTED                ACCEPTED        accepted
-REFUSED_TABLE_LENGTH    TABLE_LENGTH    table_length
-REFUSED_MISSING         MISSING         missing
-REFUSED_KIND            KIND            wrong_kind
-REFUSED_FIELD           FIELD           wrong_field
-REFUSED_TYPE            TYPE            wrong_type
-REFUSED_LEVEL           LEVEL           too_deep
-REFUSED_LOOP            LOOP            wrong_loop
-REFUSED_STORE_WORDS     STORE_WORDS     over_words
-REFUSED_BYTES_AFTER     BYTES_AFTER     bytes_after
-REFUSED_RECORD          RECORD          foreign_record
-REFUSED_SHORT_STORE     SHORT_STORE     short_store
-REFUSED_PHASE           PHASE           wrong_phase
-REFUSED_ROW_LIMIT       ROW_LIMIT       row_limit
-REFUSED_ROW_LENGTH      ROW_LENGTH      row_length_of
-REFUSED_FLAG            FLAG            wrong_flag
-REFUSED_SHORT_OUTPUT    SHORT_OUTPUT    short_output
+REFUSED_TABLE_LENGTH    TableLength     table_length
+REFUSED_MISSING         Missing         missing
+REFUSED_KIND            WrongKind       wrong_kind
+REFUSED_FIELD           WrongField      wrong_field
+REFUSED_TYPE            WrongType       wrong_type
+REFUSED_LEVEL           TooDeep         too_deep
+REFUSED_LOOP            WrongLoop       wrong_loop
+REFUSED_STORE_WORDS     OverWords       over_words
+REFUSED_BYTES_AFTER     BytesAfter      bytes_after
+REFUSED_RECORD          ForeignRecord   foreign_record
+REFUSED_SHORT_STORE     ShortStore      short_store
+REFUSED_PHASE           WrongPhase      wrong_phase
+REFUSED_ROW_LIMIT       RowLimit        row_limit
+REFUSED_ROW_LENGTH      RowLength       row_length_of
+REFUSED_FLAG            WrongFlag       wrong_flag
+REFUSED_SHORT_OUTPUT    ShortOutput     short_output
 KIND_VALUE              KIND_VALUE      kind_value
 KIND_TRIGGER            KIND_TRIGGER    kind_trigger
 VALUE_BYTES             VALUE_BYTES     value_size_of
@@ -68,7 +67,7 @@ rust() {
     sed -n 's/^\(pub \)*const \([A-Z0-9_]*\): *[a-z0-9]* = \(.*\);$/\2 \3/p' examples/glasspuddle.rs
 }
 constants() {
-    sed -n 's/^pub const \([A-Z0-9_]*\): *[a-z0-9]* = \(.*\);$/\1 \2/p' $code
+    sed -n -e 's/^pub const \([A-Z0-9_]*\): *[a-z0-9]* = \(.*\);$/\1 \2/p' -e 's/^    \([A-Z][A-Za-z]*\) = \([0-9]*\),$/\1 \2/p' $code
 }
 defined() {
     awk '$NF == "ℕ" && $(NF - 1) == ":" && / pub / { number = $(NF - 2) } $2 == "=" && $1 == number { $2 = ""; print }' $definitions

@@ -21,8 +21,10 @@ held() {
     esac
 }
 
-known=$(sed -n 's/^\([a-z0-9_]*\)\( staticlib\)*:.*/\1/p' crates.txt)
-for crate in $known; do
+# The repository's crates, and those of the toolchain that one of them lists.
+crates=$(sed -n 's/^\([a-z0-9_]*\)\( staticlib\)*:.*/\1/p' crates.txt)
+known="$crates $(sed -n 's/^[a-z0-9_]*\( staticlib\)*://p' crates.txt)"
+for crate in $crates; do
     found=$( (named "$crate"; held "$crate") | sort -u | while read -r name; do
         case " $(echo $known) " in
         *" $name "*) [ "$name" = "$crate" ] || echo "$name" ;;

@@ -50,7 +50,7 @@ refused_by r h = record {
 }
 
 module _ (s : List ℕ) (t : Table) (e : decode s ≡ decoded t) where
-  abbrev x : Scanned s (scan_of (decoded t))
+  abbrev x : Scanned s (scan_of t)
   x = record { table = t; decodes = e; scan_is = refl }
 
   abbrev S : ℕ

@@ -1,6 +1,4 @@
-pub mod Rows
 pub mod Weighing
-pub mod Cells
 pub mod Numbers
 pub mod Scans
 pub mod Acceptance

@@ -1,31 +1,26 @@
--- What the scan answers, by its outcome.
+-- What the scan answers: the scan of a table, or the refusal that the check announces.
 -- Assumes nothing.
-use Prim.Native.Nat.{ℕ}
-use native.Mathlib.Omega.{arith}
-use mathlib.Core.Path.{◌≡◌, refl, sym, ap, ◌∙◌}
-use mathlib.Core.List.{List}
+use Rattle.std.specs.Prelude.{◌≡◌, List, ℕ, Ok, Err}
+use mathlib.Core.Path.{refl}
+use Rattle.limits.specs.declared.Refusal.{Refusal}
 use Rattle.table.specs.Table.{Decoded, decoded, refused, decode}
-use Rattle.table.specs.Answers.{scan_of, number_of}
+use Rattle.table.specs.Answers.{Scans}
 use Rattle.table.specs.declared.Scan.{Scan}
-use Rattle.table.specs.declared.Outcome.TheVariants.{Accepted, Refused}
-use Rattle.table.proofs.Decoding.{scan_accepts}
-use Rattle.announce.specs.declared.Checked.{Checked}
-use Rattle.announce.specs.Announced.{refusal, announced}
+use Rattle.announce.specs.Announced.{checked_as, announced}
 use Rattle.announce.specs.Rows.{Scanned}
 
-module _ (s : List ℕ) {r : Scan} (p : r ≡ scan_of (decode s)) where
-  pub scan_taken : r.outcome ≡ Accepted → Scanned s r
-  unfolding number_of
-  scan_taken e = let a = scan_accepts s p (ap number_of e) in record { table = a.table; decodes = a.decodes; scan_is = a.scan_is }
+module _ (s : List ℕ) where
+  taken_by : (d : Decoded) → decode s ≡ d → {c : Scan} → Scans d (Ok c) → Scanned s c
+  taken_by (decoded t) e is = record { table = t; decodes = e; scan_is = is }
+  taken_by (refused why at) e is = absurd is
 
-  refused_by : (d : Decoded) → decode s ≡ d → r ≡ scan_of d → {n place : ℕ} {c : Checked} → r.outcome ≡ Refused n place → c ≡ refusal n place → c ≡ announced s
-  unfolding scan_of announced
-  refused_by (decoded t) e q o g = let z : Accepted ≡ Refused _ _ = sym (ap (λ (x : Scan). x.outcome) q) ∙ o in let y : ◌≡◌ {A = ℕ} 0 1 = cc in absurd (omega arith)
-  refused_by (refused why at) e q {n} {place} o g =
-      let z : Refused why at ≡ Refused n place = sym (ap (λ (x : Scan). x.outcome) q) ∙ o in
-      let a : n ≡ why = cc in
-      let b : place ≡ at = cc in
-      g ∙ rw (a, b, e)
+  pub scan_taken : {c : Scan} → Scans (decode s) (Ok c) → Scanned s c
+  scan_taken = taken_by (decode s) refl
 
-  pub scan_refused : {n place : ℕ} {c : Checked} → r.outcome ≡ Refused n place → c ≡ refusal n place → c ≡ announced s
-  scan_refused = refused_by (decode s) refl p
+  refused_by : (d : Decoded) → decode s ≡ d → (r : Refusal) → Scans d (Err r) → checked_as (Err r) ≡ announced s
+  unfolding announced
+  refused_by (decoded t) e r is = absurd is
+  refused_by (refused why at) e r is = rw (e, is.0, is.1)
+
+  pub scan_refused : (r : Refusal) → Scans (decode s) (Err r) → checked_as (Err r) ≡ announced s
+  scan_refused = refused_by (decode s) refl

@@ -1,15 +1,16 @@
 -- The weights of a table, equation by equation: what the scan notes of an expression is what the table's edges say.
 -- Assumes nothing.
-use Prim.Native.Nat.{ℕ, ◌+◌, ◌*◌, ◌≤◌, ◌<◌}
+use Prim.Native.Nat.{ℕ, zero, suc, ◌+◌, ◌≤◌, ◌<◌}
 use native.Mathlib.Omega.{arith}
-use mathlib.Core.Path.{◌≡◌, sym, ap, ◌∙◌}
+use mathlib.Core.Path.{◌≡◌, refl, sym, ap, ◌∙◌}
 use mathlib.Core.Logic.{◌⊎◌, inl, inr, ⊎_elim}
-use mathlib.Core.List.{List}
+use mathlib.Core.List.{List, []}
 use lib.IntN.{ℤ}
-use lib.ListN.{length, get_or, take, replicate}
+use lib.ListN.{length, get_or, set, take, replicate}
+use lib.Seq.{get_or-set_same, get_or-set_other}
 use Rattle.basis.specs.Notes.{rising, falling}
-use Rattle.limits.specs.Limits.{most_streams, most_pairs, most_levels}
-use Rattle.basis.specs.Rows.{column}
+use Rattle.limits.specs.Limits.{most_streams, most_levels}
+use Rattle.basis.specs.Rows.{entry, column}
 use Rattle.basis.proofs.Rows.{column_at, column_long}
 use Rattle.basis.proofs.Tests.{lt_or_ge}
 use Rattle.node.specs.Kinds.{Tabulated}
@@ -33,7 +34,20 @@ use Rattle.table.proofs.Entries.{padded_at, padded_take, start_of}
 use Rattle.table.proofs.Edges.{reference_edge, edge_output, edge_reference}
 use Rattle.walks.specs.Longest.{note_of, rise_of, fall_of}
 use Rattle.walks.proofs.Notes.{note_one, no_note}
-use Rattle.announce.specs.Rows.{RowPut, Weighs, Scanned, Arrays, WeighsTo}
+use Rattle.announce.specs.Rows.{Weighs, Scanned, Arrays, WeighsTo}
+
+-- rows of zeros, and rows of which one is stored
+blank_at : (n m x v : ℕ) → entry (replicate n (replicate m 0)) x v ≡ 0
+blank_at zero m x v = refl
+blank_at (suc n) m zero v = same_at 0 m v
+blank_at (suc n) m (suc x) v = blank_at n m x v
+
+module _ (rows : List (List ℕ)) (y : ℕ) (row : List ℕ) (v : ℕ) where
+  stored : y < length rows → entry (set rows y row) y v ≡ get_or row v 0
+  stored h = ap (λ (r : List ℕ). get_or r v 0) (get_or-set_same rows y row [] h)
+
+  kept_at : (x : ℕ) → (x ≡ y → ⊥) → entry (set rows y row) x v ≡ entry rows x v
+  kept_at x h = ap (λ (r : List ℕ). get_or r v 0) (get_or-set_other rows y x row [] h)
 
 module _ {s : List ℕ} {t : Table} {types starts : List ℕ} {held : ℕ} (a : Arrays s t types starts held) where
   fine : Sound s t
@@ -50,16 +64,16 @@ module _ {s : List ℕ} {t : Table} {types starts : List ℕ} {held : ℕ} (a : 
   all_seen e = fresh_seen types held (omega (arith, a.streams_are, fine.few)) e (λ v _. rw types_taken (omega (arith, fine.type_is v)))
 
   -- before the first equation
-  pub weights_none : WeighsTo t t.inputs (replicate most_pairs 0) (replicate most_pairs 0)
+  pub weights_none : WeighsTo t t.inputs (replicate most_streams (replicate most_streams 0)) (replicate most_streams (replicate most_streams 0))
   weights_none = record {
-    rises = λ x v h l. same_at 0 most_pairs (x * most_streams + v) ∙ sym (no_edge _ x v (inl h));
-    falls = λ x v h l. same_at 0 most_pairs (x * most_streams + v) ∙ sym (no_edge _ x v (inl h));
-    no_rise = λ x v h l k. same_at 0 most_pairs (x * most_streams + v);
-    no_fall = λ x v h l k. same_at 0 most_pairs (x * most_streams + v);
+    rises = λ x v h l. blank_at most_streams most_streams x v ∙ sym (no_edge _ x v (inl h));
+    falls = λ x v h l. blank_at most_streams most_streams x v ∙ sym (no_edge _ x v (inl h));
+    no_rise = λ x v h l k. blank_at most_streams most_streams x v;
+    no_fall = λ x v h l k. blank_at most_streams most_streams x v;
   }
 
   -- behind the last
-  pub weights_all : {y : ℕ} {rise fall : List ℕ} → y ≡ streams t → WeighsTo t y rise fall → Weighs t rise fall
+  pub weights_all : {y : ℕ} {rise fall : List (List ℕ)} → y ≡ streams t → WeighsTo t y rise fall → Weighs t rise fall
   weights_all {y} {rise} {fall} e w = record {
     rises = λ x v h l. ⊎_elim (λ p. w.rises x v p l) (λ p. w.no_rise x v p h l ∙ sym (no_edge _ x v (inr (omega arith)))) (lt_or_ge x y);
     falls = λ x v h l. ⊎_elim (λ p. w.falls x v p l) (λ p. w.no_fall x v p h l ∙ sym (no_edge _ x v (inr (omega arith)))) (lt_or_ge x y);
@@ -117,21 +131,21 @@ module _ {s : List ℕ} {t : Table} {types starts : List ℕ} {held : ℕ} (a : 
 
       -- one equation more
       pub weights_more :
-          {wanted start : ℕ} {rise fall rise' fall' : List ℕ} {seen' : List (List ℕ)} {r : ℕ} → WeighsTo t y rise fall → wanted ≡ get_or types y 0 → start ≡ get_or starts y 0 →
+          {wanted start : ℕ} {rise fall : List (List ℕ)} {rises falls : List ℕ} {seen' : List (List ℕ)} {r : ℕ} → length rise ≡ most_streams → length fall ≡ most_streams → WeighsTo t y rise fall → wanted ≡ get_or types y 0 → start ≡ get_or starts y 0 →
           Scanning (parse most_levels (take held types) s wanted start) s (take held types) seen seen' r →
-          RowPut rise y (column seen_rise seen') rise' → RowPut fall y (column seen_fall seen') fall' → WeighsTo t (y + 1) rise' fall'
-      weights_more {wanted} {start} {rise} {fall} {rise'} {fall'} w p q n f g = record {
-        rises = λ x v h k. ⊎_elim (λ b. f.others x v (λ i. omega arith) k ∙ w.rises x v b k) (λ i. let d : x ≡ y = omega arith in rw d (own_rise v k)) (lt_or_ge x y);
-        falls = λ x v h k. ⊎_elim (λ b. g.others x v (λ i. omega arith) k ∙ w.falls x v b k) (λ i. let d : x ≡ y = omega arith in rw d (own_fall v k)) (lt_or_ge x y);
-        no_rise = λ x v h b k. f.others x v (λ i. omega arith) k ∙ w.no_rise x v (omega arith) b k;
-        no_fall = λ x v h b k. g.others x v (λ i. omega arith) k ∙ w.no_fall x v (omega arith) b k;
+          rises ≡ column seen_rise seen' → falls ≡ column seen_fall seen' → WeighsTo t (y + 1) (set rise y rises) (set fall y falls)
+      weights_more {wanted} {start} {rise} {fall} {rises} {falls} lr lf w p q n f g = record {
+        rises = λ x v h k. ⊎_elim (λ b. kept_at rise y rises v x (λ i. omega arith) ∙ w.rises x v b k) (λ i. let d : x ≡ y = omega arith in rw d (own_rise v k)) (lt_or_ge x y);
+        falls = λ x v h k. ⊎_elim (λ b. kept_at fall y falls v x (λ i. omega arith) ∙ w.falls x v b k) (λ i. let d : x ≡ y = omega arith in rw d (own_fall v k)) (lt_or_ge x y);
+        no_rise = λ x v h b k. kept_at rise y rises v x (λ i. omega arith) ∙ w.no_rise x v (omega arith) b k;
+        no_fall = λ x v h b k. kept_at fall y falls v x (λ i. omega arith) ∙ w.no_fall x v (omega arith) b k;
       }
         where
-          own_rise : (v : ℕ) → v < most_streams → get_or rise' (y * most_streams + v) 0 ≡ rise_of (edges t) y v
-          own_rise v k = f.own v k ∙ ap (λ (l : List ℕ). get_or l v 0) (n.rises e _ (parsed p q)) ∙ rise_is v _ _ (first_noted v k)
+          own_rise : (v : ℕ) → v < most_streams → entry (set rise y rises) y v ≡ rise_of (edges t) y v
+          own_rise v k = stored rise y rises v (omega (arith, lr, inside, fine.few)) ∙ ap (λ (l : List ℕ). get_or l v 0) (f ∙ n.rises e _ (parsed p q)) ∙ rise_is v _ _ (first_noted v k)
 
-          own_fall : (v : ℕ) → v < most_streams → get_or fall' (y * most_streams + v) 0 ≡ fall_of (edges t) y v
-          own_fall v k = g.own v k ∙ ap (λ (l : List ℕ). get_or l v 0) (n.falls e _ (parsed p q)) ∙ fall_is v _ _ (first_noted v k)
+          own_fall : (v : ℕ) → v < most_streams → entry (set fall y falls) y v ≡ fall_of (edges t) y v
+          own_fall v k = stored fall y falls v (omega (arith, lf, inside, fine.few)) ∙ ap (λ (l : List ℕ). get_or l v 0) (g ∙ n.falls e _ (parsed p q)) ∙ fall_is v _ _ (first_noted v k)
 
 module _ {s : List ℕ} {c : Scan} (x : Scanned s c) where
   whole : Sound s x.table
@@ -160,7 +174,7 @@ module _ {s : List ℕ} {c : Scan} (x : Scanned s c) where
   pub types_length : length c.types ≡ most_streams
   types_length = ap length arrays_of.types_are ∙ padded_length x.table.types whole.few
 
-  pub scanning_start : (t : Table) → Arrays s t c.types c.starts c.streams → (t.inputs ≤ c.inputs) × WeighsTo t c.inputs (replicate most_pairs 0) (replicate most_pairs 0)
+  pub scanning_start : (t : Table) → Arrays s t c.types c.starts c.streams → (t.inputs ≤ c.inputs) × WeighsTo t c.inputs (replicate most_streams (replicate most_streams 0)) (replicate most_streams (replicate most_streams 0))
   scanning_start t a =
       let e : x.table ≡ t = same_table (sym x.decodes ∙ a.decodes) in
       let i : c.inputs ≡ t.inputs = inputs_are ∙ ap (λ (z : Table). z.inputs) e in

@@ -1,8 +1,9 @@
 -- What the check's functions hold on the way to its answer: the weights of all equations, one row of 32 numbers for each stream.
 -- Assumes nothing.
-use Rattle.std.specs.Prelude.{ℕ, ◌+◌, ◌-◌, ◌*◌, ◌≤◌, ◌<◌, ◌≡◌, List, ◌++◌, cond, leb, length, get_or, replicate}
+use Rattle.std.specs.Prelude.{ℕ, ◌-◌, ◌≤◌, ◌<◌, ◌≡◌, List, ◌++◌, cond, leb, get_or, replicate}
 use Rattle.limits.specs.Limits.{most_streams, most_words}
 use Rattle.limits.specs.Refusals.{accepted, over_words}
+use Rattle.basis.specs.Rows.{entry}
 use Rattle.basis.specs.Sums.{total, most}
 use Rattle.records.specs.Kinds.{room_for}
 use Rattle.kept.specs.Kept.{Looks, Falls, kept_row}
@@ -13,22 +14,16 @@ use Rattle.table.specs.Answers.{scan_of, padded, starts_of}
 use Rattle.table.specs.declared.Scan.{Scan}
 use Rattle.walks.specs.Longest.{rise_of, fall_of}
 
--- the row y of `all` is `row`, every other one as it was before
-pub record RowPut (before : List ℕ) (y : ℕ) (row after : List ℕ) : Type 0 where
-  pub size : length after ≡ length before
-  pub own : (v : ℕ) → v < most_streams → get_or after (y * most_streams + v) 0 ≡ get_or row v 0
-  pub others : (x v : ℕ) → (x ≡ y → ⊥) → v < most_streams → get_or after (x * most_streams + v) 0 ≡ get_or before (x * most_streams + v) 0
-
--- the notes of the largest and of the smallest weight of an edge of the table from y to v, at y * 32 + v; 0 where there is none
-pub record Weighs (t : Table) (rise fall : List ℕ) : Type 0 where
-  pub rises : (y v : ℕ) → y < most_streams → v < most_streams → get_or rise (y * most_streams + v) 0 ≡ rise_of (edges t) y v
-  pub falls : (y v : ℕ) → y < most_streams → v < most_streams → get_or fall (y * most_streams + v) 0 ≡ fall_of (edges t) y v
+-- the notes of the largest and of the smallest weight of an edge of the table from y to v, in row y at v; 0 where there is none
+pub record Weighs (t : Table) (rise fall : List (List ℕ)) : Type 0 where
+  pub rises : (y v : ℕ) → y < most_streams → v < most_streams → entry rise y v ≡ rise_of (edges t) y v
+  pub falls : (y v : ℕ) → y < most_streams → v < most_streams → entry fall y v ≡ fall_of (edges t) y v
 
 -- the scan is that of a table that these bytes decode to
 pub record Scanned (s : List ℕ) (c : Scan) : Type 0 where
   pub table : Table
   pub decodes : decode s ≡ decoded table
-  pub scan_is : c ≡ scan_of (decoded table)
+  pub scan_is : c ≡ scan_of table
 
 -- what the loop over the equations holds of the table: its scan's arrays and its number of streams
 pub record Arrays (s : List ℕ) (t : Table) (types starts : List ℕ) (streams_held : ℕ) : Type 0 where
@@ -38,14 +33,14 @@ pub record Arrays (s : List ℕ) (t : Table) (types starts : List ℕ) (streams_
   pub streams_are : streams_held ≡ streams t
 
 -- the weights of the equations below y are there, the others are 0
-pub record WeighsTo (t : Table) (y : ℕ) (rise fall : List ℕ) : Type 0 where
-  pub rises : (x v : ℕ) → x < y → v < most_streams → get_or rise (x * most_streams + v) 0 ≡ rise_of (edges t) x v
-  pub falls : (x v : ℕ) → x < y → v < most_streams → get_or fall (x * most_streams + v) 0 ≡ fall_of (edges t) x v
-  pub no_rise : (x v : ℕ) → y ≤ x → x < most_streams → v < most_streams → get_or rise (x * most_streams + v) 0 ≡ 0
-  pub no_fall : (x v : ℕ) → y ≤ x → x < most_streams → v < most_streams → get_or fall (x * most_streams + v) 0 ≡ 0
+pub record WeighsTo (t : Table) (y : ℕ) (rise fall : List (List ℕ)) : Type 0 where
+  pub rises : (x v : ℕ) → x < y → v < most_streams → entry rise x v ≡ rise_of (edges t) x v
+  pub falls : (x v : ℕ) → x < y → v < most_streams → entry fall x v ≡ fall_of (edges t) x v
+  pub no_rise : (x v : ℕ) → y ≤ x → x < most_streams → v < most_streams → entry rise x v ≡ 0
+  pub no_fall : (x v : ℕ) → y ≤ x → x < most_streams → v < most_streams → entry fall x v ≡ 0
 
 -- numbers from which kept values can be taken: look-aheads and smallest weights within their bounds
-pub record Fitting (c : Scan) (look fall : List ℕ) : Type 0 where
+pub record Fitting (c : Scan) (look : List ℕ) (fall : List (List ℕ)) : Type 0 where
   pub few : c.streams ≤ most_streams
   pub outputs : c.inputs ≤ c.streams
   pub roles : (v : ℕ) → v < most_streams → get_or c.roles v 0 ≤ 1
@@ -53,7 +48,7 @@ pub record Fitting (c : Scan) (look fall : List ℕ) : Type 0 where
   pub fall_small : Falls fall
 
 -- the announced numbers from a scan, the look-aheads and the smallest weights; refusal 8 where the store words are over 4,096
-unfoldable pub numbers_for : Scan → List ℕ → List ℕ → Checked
+unfoldable pub numbers_for : Scan → List ℕ → List (List ℕ) → Checked
 numbers_for c look fall =
     let kept = kept_row look fall c.streams in
     let words = total (λ v. get_or kept v 0) c.streams in

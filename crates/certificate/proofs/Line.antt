@@ -3,6 +3,7 @@
 use mathlib.Core.Path.{◌≡◌, refl, sym, ap, ap₂, ◌∙◌}
 use mathlib.Core.Logic.{◌⊎◌, inl, inr, ⊎_elim}
 use mathlib.Core.List.{List}
+use Rattle.std.specs.Prelude.{Some, None}
 use Prim.Native.Nat.{ℕ, zero, suc, ◌+◌, ◌^◌, ◌≤◌, ◌<◌}
 use native.Mathlib.Omega.{arith}
 use native.Mathlib.Nat.{not-suc-le-zero, le_of_suc-le-suc}
@@ -87,12 +88,12 @@ module _ (tight : List ℕ) (s : ℕ) where
       once = λ i j l. w.once i j (omega arith);
     }
 
-    pub way_stuck : {y : ℕ} → n < s → s ≤ y → Ready tight o s y → Stuck tight s
-    way_stuck h g r =
+    pub way_stuck : n < s → Ready tight o s None → Stuck tight s
+    way_stuck h r =
         let q = left_some s o (λ e. let c = w.count in omega arith) in
-        record { rest = o; y = q.0; inside = q.1; is = q.2; on = λ y l b. and_some (get_or tight y 0) o (r.none g y l b) }
+        record { rest = o; y = q.0; inside = q.1; is = q.2; on = λ y l b. and_some (get_or tight y 0) o (r y l b) }
 
-    module _ (y : ℕ) (l : y < s) (s32 : s ≤ most_streams) (r : Ready tight o s y) where
+    module _ (y : ℕ) (s32 : s ≤ most_streams) (r : Ready tight o s (Some y)) where
       order' : List ℕ
       order' = set order n y
 
@@ -100,10 +101,10 @@ module _ (tight : List ℕ) (s : ℕ) where
       o' = bit_xor o (2 ^ y)
 
       is_open : bit o y ≡ 1
-      is_open = (r.found l).0
+      is_open = r.1
 
       room : n < s
-      room = omega (arith, w.count, left_out s o y l is_open)
+      room = omega (arith, w.count, left_out s o y r.0 is_open)
 
       own : get_or order' n 0 ≡ y
       unfolding order'
@@ -124,7 +125,7 @@ module _ (tight : List ℕ) (s : ℕ) where
       closed' : (i : ℕ) → (i < n) ⊎ (i ≡ n) → (get_or order' i 0 < s) × (bit o' (get_or order' i 0) ≡ 0)
       unfolding o'
       closed' i (inl h) = rw (old i h) ((w.closed i h).0, stays (get_or order i 0) (differs i h) ∙ (w.closed i h).1)
-      closed' i (inr e) = rw (e, own) (l, out_own o y is_open)
+      closed' i (inr e) = rw (e, own) (r.0, out_own o y is_open)
 
       placed' : (v : ℕ) → v < s → bit o' v ≡ 0 → Dec (v ≡ y) → (i : ℕ) × (i < n + 1) × (get_or order' i 0 ≡ v)
       placed' v h e (yes q) = (n, omega arith, own ∙ sym q)
@@ -141,7 +142,7 @@ module _ (tight : List ℕ) (s : ℕ) where
 
           go : Dec (bit o v ≡ 0) → (j : ℕ) × (j < n) × (get_or order' j 0 ≡ v)
           go (yes z) = let p = w.placed v k z in (p.0, p.1, old p.0 p.1 ∙ p.2)
-          go (no z) = absurd (and_none (get_or tight y 0) o v (r.found l).1 b' (omega (arith, bit_lt o v)))
+          go (no z) = absurd (and_none (get_or tight y 0) o v r.2 b' (omega (arith, bit_lt o v)))
 
       once' : (i j : ℕ) → (i < n) ⊎ (i ≡ n) → j < i → get_or order' i 0 ≡ get_or order' j 0 → ⊥
       once' i j (inl h) k e = w.once i j h k (sym (old i h) ∙ e ∙ old j (omega arith))
@@ -159,5 +160,5 @@ module _ (tight : List ℕ) (s : ℕ) where
         placed = λ v h e. placed' v h e (ℕ_discrete v y);
         before = λ i v h k b. before' i v (upto i h) k b;
         once = λ i j h k e. once' i j (upto i h) k e;
-        count = omega (arith, w.count, left_out s o y l is_open);
+        count = omega (arith, w.count, left_out s o y r.0 is_open);
       })

@@ -1,14 +1,13 @@
 -- The streams in a line, each behind its tight targets, or a set of streams none of which can come first; and numbers that agree with a tally.
 -- Assumes nothing.
-use Rattle.std.specs.Prelude.{ℕ, ◌+◌, ◌≤◌, ◌<◌, ◌≡◌, Bool, true, false, ◌⊎◌, List, get_or}
+use Rattle.std.specs.Prelude.{ℕ, ◌+◌, ◌<◌, ◌≡◌, Bool, true, false, ◌⊎◌, Option, Some, None, List, get_or}
 use Rattle.std.specs.Int.Bits.{bit_and}
 use Rattle.certificate.specs.Tally.{bit}
 
--- r is a stream of the rest none of whose tight targets is in the rest, or s where each stream of the rest has one
-pub record Ready (tight : List ℕ) (rest s r : ℕ) : Type 0 where
-  pub within : r ≤ s
-  pub found : r < s → (bit rest r ≡ 1) × (bit_and (get_or tight r 0) rest ≡ 0)
-  pub none : s ≤ r → (y : ℕ) → y < s → bit rest y ≡ 1 → bit_and (get_or tight y 0) rest ≡ 0 → ⊥
+-- a stream of the rest none of whose tight targets is in the rest, or none where each stream of the rest has one
+abbrev pub Ready : (tight : List ℕ) (rest s : ℕ) → Option ℕ → Type 0
+Ready tight rest s (Some r) = (r < s) × (bit rest r ≡ 1) × (bit_and (get_or tight r 0) rest ≡ 0)
+Ready tight rest s None = (y : ℕ) → y < s → bit rest y ≡ 1 → bit_and (get_or tight y 0) rest ≡ 0 → ⊥
 
 -- every stream once, each behind its tight targets
 pub record Lined (tight : List ℕ) (s : ℕ) (order : List ℕ) : Type 0 where

@@ -28,20 +28,14 @@ fn mark(set: u32, v: usize, test: bool) -> u32
     requires { v < most_streams }
     ensures { result ≡ marked set v test }
 {
-    let bit: u32 = if test { 1 } else { 0 };
-    set | bit << v
+    set | u32::from(test) << v
 }
 
 // The larger of `most` and of what `have` is above `want`.
 fn looser(most: u32, have: u32, want: u32) -> u32
     ensures { result ≡ max most (have - want) }
 {
-    if want < have {
-        let slack = have - want;
-        if most < slack { slack } else { most }
-    } else {
-        most
-    }
+    most.max(have.saturating_sub(want))
 }
 
 // Notes the edges of y's equation to `v`: whether each has slack. What was seen of them is cleared, for the next equation.
@@ -58,12 +52,12 @@ fn note_cell(
         → NotedCell result y v s (of look.now) rise fall tight.old most.old tight.new most.new)
         × (seen.new ≡ cond result (wiped v seen.old) seen.old) }
 {
-    let top = wire::short_word(seen[v][expression::SEEN_RISE]);
+    let top = u32::from(seen[v][expression::SEEN_RISE]);
     if top == 0 {
         return true;
     }
-    let have = wire::short_word(look[y]);
-    let ahead = wire::short_word(look[v]);
+    let have = u32::from(look[y]);
+    let ahead = u32::from(look[v]);
     let want = top + ahead;
     if have + RISE_OF_ZERO < want {
         return false;
@@ -71,7 +65,7 @@ fn note_cell(
     tight[y] = mark(tight[y], v, have + RISE_OF_ZERO == want);
     most[v] = looser(
         most[v],
-        have + wire::short_word(seen[v][expression::SEEN_FALL]),
+        have + u32::from(seen[v][expression::SEEN_FALL]),
         FALL_OF_ZERO + ahead,
     );
     seen[v][expression::SEEN_RISE] = 0;
@@ -92,43 +86,29 @@ pub fn note_row(
     ensures { NotedRow result y s (of look.now) seen.old tight.old most.old
         seen.new tight.new most.new }
 {
-    let mut v = 0;
-    while v < s {
-        if note_cell(tight, most, look, seen, y, v) {
-            v += 1;
-        } else {
+    for v in 0..s {
+        if !note_cell(tight, most, look, seen, y, v) {
             return false;
         }
     }
     true
 }
 
-// The lowest stream of `rest` none of whose tight targets is in `rest`, or `s`.
-fn ready(tight: &[u32; STREAMS_MOST], rest: u32, s: usize) -> usize
+// The lowest stream of `rest` none of whose tight targets is in `rest`.
+fn ready(tight: &[u32; STREAMS_MOST], rest: u32, s: usize) -> Option<usize>
     requires { s ≤ most_streams }
     ensures { Ready tight.now rest s result }
 {
-    let mut y = 0;
-    while y < s {
-        if (rest >> y) % 2 == 1 {
-            if tight[y] & rest == 0 {
-                return y;
-            }
-        }
-        y += 1;
-    }
-    s
+    (0..s).find(|y| (rest >> *y) % 2 == 1 && tight[*y] & rest == 0)
 }
 
 // The same, with the stream `n` tried first: most tables name their streams in an order that serves.
-fn ready_from(tight: &[u32; STREAMS_MOST], rest: u32, s: usize, n: usize) -> usize
+fn ready_from(tight: &[u32; STREAMS_MOST], rest: u32, s: usize, n: usize) -> Option<usize>
     requires { (s ≤ most_streams) × (n < s) }
     ensures { Ready tight.now rest s result }
 {
-    if (rest >> n) % 2 == 1 {
-        if tight[n] & rest == 0 {
-            return n;
-        }
+    if (rest >> n) % 2 == 1 && tight[n] & rest == 0 {
+        return Some(n);
     }
     ready(tight, rest, s)
 }
@@ -144,19 +124,9 @@ fn numbers_agree(
     requires { s ≤ most_streams }
     ensures { Agreed result tight.now most.now look.now kept.now s }
 {
-    let mut v = 0;
-    while v < s {
-        if wire::short_wide(kept[v]) != wire::word_wide(most[v]) + 1 {
-            return false;
-        }
-        if look[v] != 0 {
-            if tight[v] == 0 {
-                return false;
-            }
-        }
-        v += 1;
-    }
-    true
+    (0..s).all(|v| {
+        u64::from(kept[v]) == u64::from(most[v]) + 1 && (look[v] == 0 || tight[v] != 0)
+    })
 }
 
 // Whether the streams below `s` can be put in a line, each behind its tight targets; `order` is lent for it.
@@ -164,17 +134,13 @@ fn ordered(tight: &[u32; STREAMS_MOST], s: usize, order: &mut [u8; STREAMS_MOST]
     requires { (s ≤ most_streams) × (length order.old ≡ most_streams) }
     ensures { InLine result tight.now s order.new }
 {
-    let mut rest: u32 = 4294967295;
-    let mut n = 0;
-    while n < s {
-        let y = ready_from(tight, rest, s, n);
-        if y < s {
-            order[n] = y as u8;
-            rest = rest ^ 1 << y;
-            n += 1;
-        } else {
+    let mut rest = u32::MAX;
+    for n in 0..s {
+        let Some(y) = ready_from(tight, rest, s, n) else {
             return false;
-        }
+        };
+        order[n] = y as u8;
+        rest ^= 1 << y;
     }
     true
 }
@@ -192,8 +158,5 @@ pub fn settle(
     ensures { (es : List Edge) → Within (Among es) s → Tally (Among es) (of look.now) tight.now most.now
         → Settled result (Among es) s (of look.now) (of kept.now) order.new }
 {
-    if numbers_agree(tight, most, look, kept, s) {
-        return ordered(tight, s, order);
-    }
-    false
+    numbers_agree(tight, most, look, kept, s) && ordered(tight, s, order)
 }

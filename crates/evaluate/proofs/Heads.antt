@@ -18,6 +18,7 @@ use Rattle.expression.specs.Syntax.{Expr}
 use Rattle.expression.specs.Grammar.{good, bad, parse}
 use Rattle.node.specs.declared.Node.{Node}
 use Rattle.node.specs.Head as head
+use Rattle.store.specs.declared.Frame.{Frame}
 use Rattle.evaluate.specs.Evaluation.{Readable}
 
 -- the node at a place where the grammar reads an expression
@@ -45,7 +46,7 @@ none_refused l ts s w place {e} {m} p why h =
     let a : bad why place ≡ good e m = sym (parse_refused l ts s w place h) ∙ p in
     let z : ◌≡◌ {A = ℕ} 0 1 = cc in omega arith
 
-module _ {l : ℕ} {frame : List (List ℕ)} {m : ℕ} {s : List ℕ} {place : ℕ} (x : Readable l frame m s place) where
+module _ {l : ℕ} {frame : Frame} {m : ℕ} {s : List ℕ} {place : ℕ} (x : Readable l frame m s place) where
   abbrev pub types_in : List ℕ
   types_in = take x.turn.streams x.turn.types
 

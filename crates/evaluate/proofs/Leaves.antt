@@ -1,6 +1,6 @@
 -- The value of a constant or a reference, as the grammar reads it: what a reference refers to is found by the frame.
 -- Assumes nothing.
-use mathlib.Core.Path.{◌≡◌, refl, sym, ap, ◌∙◌}
+use mathlib.Core.Path.{◌≡◌, refl, sym, ap, subst, ◌∙◌}
 use mathlib.Core.Bool.{true}
 use mathlib.Core.List.{List}
 use Prim.Native.Nat.{ℕ, ◌+◌, ◌<◌}
@@ -8,7 +8,6 @@ use native.Mathlib.Omega.{arith}
 use lib.IntN.{ℤ}
 use lib.ListN.{get_or}
 use Rattle.basis.specs.Parts.{up}
-use Rattle.basis.specs.Rows.{entry}
 use Rattle.basis.proofs.Tests.{true_false}
 use Rattle.expression.proofs.Operands.{parse_leaf}
 use Rattle.expression.specs.Syntax.{Expr, leaf}
@@ -26,9 +25,10 @@ use Rattle.lola.specs.Graph.{Occurs, here}
 use Rattle.lola.specs.Models.{value, refer}
 use Rattle.lola.proofs.References.{refer_agree}
 use Rattle.meaning.specs.Expressions.{meaning}
-use Rattle.store.specs.Store.{held_of, type_entry, Findable}
+use Rattle.store.specs.declared.Frame.{Frame}
+use Rattle.store.specs.Store.{held_of, part_of, Findable}
 use Rattle.store.proofs.Places.{findable, is_held}
-use Rattle.evaluate.specs.Evaluation.{found_in, known_in, position_in, referred_in, Referable, InTurn, Held, Readable, value_in, value_of, evaluated_of}
+use Rattle.evaluate.specs.Evaluation.{found_in, referred_in, Referable, InTurn, Held, Readable, value_in, value_of, evaluated_of}
 use Rattle.evaluate.proofs.Heads.{types_in, leaf_here}
 
 pub same_expr : {a e : Expr} {n m : ℕ} → good a n ≡ good e m → e ≡ a
@@ -38,8 +38,8 @@ pub same_end : {a e : Expr} {n m : ℕ} → good a n ≡ good e m → m ≡ n
 same_end h = cc
 
 -- a reference whose stream the store holds, in a turn
-module _ {frame : List (List ℕ)} {m : ℕ} (x : InTurn frame m) {r : Ref Value} (h : Held x.look x.kept x.streams x.n x.t x.j r) where
-  rows_known : known_in frame ≡ x.n
+module _ {frame : Frame} {m : ℕ} (x : InTurn frame m) {r : Ref Value} (h : Held x.look x.kept x.streams x.n x.t x.j r) where
+  rows_known : frame.known ≡ x.n
   rows_known = x.framed.known
 
   -- where it lies in the trace
@@ -50,18 +50,16 @@ module _ {frame : List (List ℕ)} {m : ℕ} (x : InTurn frame m) {r : Ref Value
     found_held : (st : List ℕ) → found_in frame st (target r) q ≡ held_of x.types x.kept st (target r) q
     found_held st = is_held x.framed h.stream (h.within q e l) st refl
 
-  pub refers_held : (st : List ℕ) → refer (found_in frame st) (known_in frame) (position_in frame) r ≡ refer (held_of x.types x.kept st) x.n x.j r
-  refers_held st = rw (rows_known, x.position) (refer_agree (found_in frame st) (held_of x.types x.kept st) x.n x.n x.j r x.inside (λ q c z. z) (λ q c z. z) (λ q c z. found_held q c z st))
+  pub refers_held : (st : List ℕ) → refer (found_in frame st) frame.known frame.position r ≡ refer (held_of x.types x.kept st) x.n x.j r
+  refers_held st = (λ i. refer (found_in frame st) (rows_known i) (x.position i) r) ∙ (refer_agree (found_in frame st) (held_of x.types x.kept st) x.n x.n x.j r x.inside (λ q c z. z) (λ q c z. z) (λ q c z. found_held q c z st))
 
-module _ {frame : List (List ℕ)} {m : ℕ} (x : InTurn frame m) where
-  now_found : {v : ℕ} → Held x.look x.kept x.streams x.n x.t x.j (lola.now v) → Findable frame m v (position_in frame)
-  now_found {v} h = rw x.position (found_there x h x.j refl x.inside)
+module _ {frame : Frame} {m : ℕ} (x : InTurn frame m) where
+  now_found : {v : ℕ} → Held x.look x.kept x.streams x.n x.t x.j (lola.now v) → Findable frame m v frame.position
+  now_found {v} h = subst (λ (q : ℕ). Findable frame m v q) (sym x.position) (found_there x h x.j refl x.inside)
 
   at_found : {v : ℕ} {k : ℤ} {d : Value} → Held x.look x.kept x.streams x.n x.t x.j (lola.at v k d) → Referable frame m v k
   at_found {v} {k} h = record {
     stream = omega (arith, h.stream, x.few);
-    shape = x.framed.laid.shape;
-    typed = (x.framed.laid.narrow v h.stream).1;
     found = λ q e l. found_there x h q (e ∙ ap (λ (j : ℕ). j + up k) x.position) (omega (arith, l, x.framed.known));
   }
 
@@ -79,7 +77,7 @@ module _ (types kept st : List ℕ) (n j : ℕ) where
   value_at v k d = refl
 
 -- the node that the code decodes at a place where the grammar reads an expression
-module _ {l : ℕ} {frame : List (List ℕ)} {m : ℕ} {s : List ℕ} {place : ℕ} (x : Readable l frame m s place) {node : Node} (en : node ≡ standing s place) where
+module _ {l : ℕ} {frame : Frame} {m : ℕ} {s : List ℕ} {place : ℕ} (x : Readable l frame m s place) {node : Node} (en : node ≡ standing s place) where
   abbrev behind : ℕ
   behind = place + 1 + (rule_of (get_or s place 0)).body
 
@@ -98,7 +96,7 @@ module _ {l : ℕ} {frame : List (List ℕ)} {m : ℕ} {s : List ℕ} {place : �
   unfolding head_of meaning
   at_held e = holds (leaf_is e refl) here
 
-  pub now_findable : {v : ℕ} → node ≡ Now v → Findable frame m v (position_in frame)
+  pub now_findable : {v : ℕ} → node ≡ Now v → Findable frame m v frame.position
   now_findable e = now_found x.turn (now_held e)
 
   pub at_referable : {v d : ℕ} {k : ℤ} → node ≡ At v k d → Referable frame m v k
@@ -118,15 +116,15 @@ module _ {l : ℕ} {frame : List (List ℕ)} {m : ℕ} {s : List ℕ} {place : �
     unfolding head_of
     constant_gives {t = t} {w} e ev = leaf_gives (leaf_is e refl) (ev ∙ value_constant x.turn.types x.turn.kept st x.turn.n x.turn.j t w)
 
-    pub now_gives : {v : Value} {y : ℕ} → node ≡ Now y → v ≡ found_in frame st y (position_in frame) → Answers v
+    pub now_gives : {v : Value} {y : ℕ} → node ≡ Now y → v ≡ found_in frame st y frame.position → Answers v
     unfolding head_of refer
     now_gives {y = y} e ev = leaf_gives (leaf_is e refl) (ev ∙ refers_held x.turn (now_held e) st ∙ value_now x.turn.types x.turn.kept st x.turn.n x.turn.j y)
 
     pub at_gives : {v : Value} {y d : ℕ} {k : ℤ} → node ≡ At y k d → v ≡ referred_in frame st y k d → Answers v
     unfolding head_of
     at_gives {y = y} {d} {k} e ev =
-        let t : entry frame y type_entry ≡ get_or x.turn.types y 0 = x.turn.framed.laid.typed y (at_held e).stream in
-        leaf_gives (leaf_is e refl) (ev ∙ ap (λ (w : ℕ). refer (found_in frame st) (known_in frame) (position_in frame) (lola.at y k (reading_of w d))) t ∙ refers_held x.turn (at_held e) st ∙ value_at x.turn.types x.turn.kept st x.turn.n x.turn.j y k d)
+        let t : (part_of frame y).kind ≡ get_or x.turn.types y 0 = x.turn.framed.laid.typed y (at_held e).stream in
+        leaf_gives (leaf_is e refl) (ev ∙ ap (λ (w : ℕ). refer (found_in frame st) frame.known frame.position (lola.at y k (reading_of w d))) t ∙ refers_held x.turn (at_held e) st ∙ value_at x.turn.types x.turn.kept st x.turn.n x.turn.j y k d)
 
     pub operator_never : {v : Value} {k : ℕ} → is_leaf_of (standing s place) ≡ true → node ≡ Operator k → Answers v
     unfolding is_leaf_of

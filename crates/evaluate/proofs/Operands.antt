@@ -22,6 +22,7 @@ use Rattle.node.specs.Kinds.{rule_of, meant}
 use Rattle.node.specs.Node.{is_leaf_of, standing}
 use Rattle.value.specs.declared.Value.{Value}
 use Rattle.value.specs.Values.{apply_of, choose_of}
+use Rattle.store.specs.declared.Frame.{Frame}
 use Rattle.evaluate.specs.Evaluation.{Readable, value_in, value_of, evaluated_of, Evaluates}
 use Rattle.evaluate.specs.declared.Evaluated.{Evaluated}
 use Rattle.evaluate.proofs.Heads.{types_in, standing_at, operator_here}
@@ -84,18 +85,18 @@ module _ (types kept st : List ℕ) (n j : ℕ) where
   value_ternary k a b c = refl
 
 -- an operand's answer, whichever way it was found
-pub evaluates_as : (l : ℕ) (frame : List (List ℕ)) (st s : List ℕ) (place : ℕ) {r r' : Evaluated} → r ≡ r' → Evaluates l frame st s place r' → Evaluates l frame st s place r
+pub evaluates_as : (l : ℕ) (frame : Frame) (st s : List ℕ) (place : ℕ) {r r' : Evaluated} → r ≡ r' → Evaluates l frame st s place r' → Evaluates l frame st s place r
 evaluates_as l frame st s place e h x = e ∙ h x
 
 -- the part of the store that an operand gets is all of it
-pub readable_on : {l : ℕ} {frame : List (List ℕ)} {s : List ℕ} {place : ℕ} {st held : List ℕ} → held ≡ st → Readable l frame (length st) s place → Readable l frame (length held) s place
+pub readable_on : {l : ℕ} {frame : Frame} {s : List ℕ} {place : ℕ} {st held : List ℕ} → held ≡ st → Readable l frame (length st) s place → Readable l frame (length held) s place
 readable_on e x = rw e x
 
-pub evaluates_on : (l : ℕ) (frame : List (List ℕ)) (st s : List ℕ) (place : ℕ) {held : List ℕ} {r r' : Evaluated} → held ≡ st → r ≡ r' → Evaluates l frame held s place r' → Evaluates l frame st s place r
+pub evaluates_on : (l : ℕ) (frame : Frame) (st s : List ℕ) (place : ℕ) {held : List ℕ} {r r' : Evaluated} → held ≡ st → r ≡ r' → Evaluates l frame held s place r' → Evaluates l frame st s place r
 evaluates_on l frame st s place e f h = evaluates_as l frame st s place f (rw e at h)
 
 -- the operator at a place where the grammar reads an expression
-module _ {l : ℕ} {frame : List (List ℕ)} (st : List ℕ) {s : List ℕ} {place : ℕ} (x : Readable l frame (length st) s place) (h : is_leaf_of (standing s place) ≡ false) where
+module _ {l : ℕ} {frame : Frame} (st : List ℕ) {s : List ℕ} {place : ℕ} (x : Readable l frame (length st) s place) (h : is_leaf_of (standing s place) ≡ false) where
   abbrev k : ℕ
   k = get_or s place 0
 

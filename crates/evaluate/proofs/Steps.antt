@@ -8,7 +8,6 @@ use native.Mathlib.Omega.{arith}
 use borrow.Author.Tests.{lt-ltb, le-ltb, le-leb, lt-leb}
 use lib.ListN.{length, get_or, set, length-set}
 use Rattle.basis.specs.Firsts.{of}
-use Rattle.basis.specs.Rows.{Shaped}
 use Rattle.basis.proofs.Tests.{true_false}
 use Rattle.limits.specs.Limits.{most_levels}
 use Rattle.value.specs.declared.Value.{Value}
@@ -19,15 +18,16 @@ use Rattle.lola.specs.Graph.{Edge, Occurs}
 use Rattle.run.specs.Turn.{due}
 use Rattle.meaning.specs.Expressions.{meaning}
 use Rattle.meaning.specs.Tables.{spec_in}
-use Rattle.store.specs.Store.{read_as, written_of, place_in, lent_in, frame_rows, frame_entries, Framed, Findable, Within, CanLay}
+use Rattle.store.specs.declared.Frame.{Frame}
+use Rattle.store.specs.Store.{read_as, written_of, place_in, Framed, Findable, Within, CanLay}
 use Rattle.store.proofs.Places.{findable, is_written}
-use Rattle.evaluate.specs.Evaluation.{position_in, Held, Readable, value_in, Evaluates}
+use Rattle.evaluate.specs.Evaluation.{Held, Readable, value_in, Evaluates}
 use Rattle.evaluate.specs.Turns.{Turnable}
 use Rattle.evaluate.specs.declared.Evaluated.{Evaluated}
 
 module _ {s types look kept starts order : List ℕ} {inputs streams m : ℕ} (x : Turnable s types look kept starts order inputs streams m) where
-  pub can_lay : {n : ℕ} {frame : List (List ℕ)} → 0 < n → n < 2 ^ 32 → Shaped frame_rows frame_entries frame → CanLay kept streams n frame
-  can_lay a b c = record { few = x.few; some = λ v l. x.announced.keeps.some v l; row = a; rows = b; shape = c }
+  pub can_lay : {n : ℕ} → 0 < n → n < 2 ^ 32 → CanLay kept streams n
+  can_lay a b = record { few = x.few; some = λ v l. x.announced.keeps.some v l; row = a; rows = b }
 
   -- "turn j, for the j-th accepted row": an input is due on its own turn, where there is a row
   pub row_long : (given n t y : ℕ) {a : ℕ} → (t < n → inputs ≤ given) → a ≡ of look y → t < n + a → y < inputs → y < given
@@ -38,7 +38,7 @@ module _ {s types look kept starts order : List ℕ} {inputs streams m : ℕ} (x
     pub due_within : Within look kept n t y (t - a)
     due_within = record { inside = omega arith; come = omega (arith, ea); stays = omega (arith, ea, x.announced.keeps.some y l) }
 
-    module _ {frame : List (List ℕ)} (f : Framed types look kept streams n t frame) where
+    module _ {frame : Frame} (f : Framed types look kept streams n t frame) where
       pub due_findable : Findable frame m y (t - a)
       due_findable = findable f l due_within x.few x.fits
 
@@ -55,7 +55,7 @@ module _ {s types look kept starts order : List ℕ} {inputs streams m : ℕ} (x
             };
           }
 
-      abbrev pub equation_readable : {i : ℕ} → inputs ≤ y → position_in frame ≡ t - a → lent_in frame ≡ m → i ≡ get_or starts y 0 → Readable most_levels frame m s i
+      abbrev pub equation_readable : {i : ℕ} → inputs ≤ y → frame.position ≡ t - a → frame.lent ≡ m → i ≡ get_or starts y 0 → Readable most_levels frame m s i
       equation_readable o p lent e = record {
         turn = record {
           types = types;
@@ -80,7 +80,7 @@ module _ {s types look kept starts order : List ℕ} {inputs streams m : ℕ} (x
       }
 
 -- a frame that was found another way
-pub framed_as : {types look kept : List ℕ} {streams n t : ℕ} {frame frame' : List (List ℕ)} → frame' ≡ frame → Framed types look kept streams n t frame → Framed types look kept streams n t frame'
+pub framed_as : {types look kept : List ℕ} {streams n t : ℕ} {frame frame' : Frame} → frame' ≡ frame → Framed types look kept streams n t frame → Framed types look kept streams n t frame'
 framed_as e f = rw e f
 
 -- the store after y's step of turn t: its value written, if it is due
@@ -103,7 +103,7 @@ module _ (s types look kept starts order : List ℕ) (inputs streams : ℕ) (ws 
   Steps after = Stepped s types look kept starts order inputs streams ws st n t y after
 
   -- y is due, and its value is written where the frame says
-  module _ (m : ℕ) (l : y < streams) (x : Turnable s types look kept starts order inputs streams m) (early : a ≤ t) (late : t < n + a) (frame : List (List ℕ)) (f : Framed types look kept streams n t frame) where
+  module _ (m : ℕ) (l : y < streams) (x : Turnable s types look kept starts order inputs streams m) (early : a ≤ t) (late : t < n + a) (frame : Frame) (f : Framed types look kept streams n t frame) where
     written : {after : List ℕ} (v : Value) → after ≡ set st (place_in frame y (t - a)) (image_of v) → after ≡ cond (due (of look) n t y) (written_of types kept st y (t - of look y) v) st
     written v e =
         let h : of look y ≤ t = omega (arith, ea) in
@@ -113,7 +113,7 @@ module _ (s types look kept starts order : List ℕ) (inputs streams : ℕ) (ws 
     pub input_written : {after : List ℕ} {v : Value} → y < inputs → v ≡ read_as types y (get_or ws y 0) → after ≡ set st (place_in frame y (t - a)) (image_of v) → Steps after
     input_written {v = v} h e g = record { value = v; input = λ d k. e; output = λ d o. absurd (omega (arith, h, o)); after_is = written v g }
 
-    pub output_written : {after : List ℕ} {i : ℕ} {e : Evaluated} → inputs ≤ y → position_in frame ≡ t - a → lent_in frame ≡ length st → i ≡ get_or starts y 0 → Evaluates most_levels frame st s i e → after ≡ set st (place_in frame y (t - a)) (image_of e.value) → Steps after
+    pub output_written : {after : List ℕ} {i : ℕ} {e : Evaluated} → inputs ≤ y → frame.position ≡ t - a → frame.lent ≡ length st → i ≡ get_or starts y 0 → Evaluates most_levels frame st s i e → after ≡ set st (place_in frame y (t - a)) (image_of e.value) → Steps after
     output_written {i = i} {e} o p lent ei h g = record {
       value = e.value;
       input = λ d k. absurd (omega (arith, k, o));

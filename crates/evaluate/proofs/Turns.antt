@@ -8,7 +8,9 @@ use Prim.Native.Nat.{ℕ, ◌+◌, ◌-◌, ◌<◌, ◌≤◌}
 use native.Mathlib.Omega.{arith}
 use borrow.Author.Tests.{lt-ltb, le-ltb}
 use lib.Dec.{ltb}
-use lib.ListN.{length, get_or}
+use lib.ListN.{length, get_or, take}
+use Rattle.std.proofs.lemmas.List.{length-take, get_or-take}
+use Rattle.limits.specs.Limits.{most_streams}
 use Rattle.basis.specs.Firsts.{of}
 use Rattle.value.specs.declared.Value.{Value}
 use Rattle.basis.proofs.Tests.{lt_or_ge}
@@ -22,6 +24,17 @@ use Rattle.meaning.specs.Plans.{plan_of, FitsIn}
 use Rattle.evaluate.specs.Evaluation.{value_in}
 use Rattle.evaluate.specs.Turns.{Turnable, Turns}
 use Rattle.evaluate.proofs.Steps.{Stepped}
+
+-- the loop goes over the front of the order, a place for each of the n streams
+module _ (n : ℕ) (order : List ℕ) {i : ℕ} where
+  in_front : i < length (take n order) → i < n
+  in_front h = omega (arith, length-take n order)
+
+  front_at : i < n → {y : ℕ} → y ≡ get_or (take n order) i 0 → y ≡ get_or order i 0
+  front_at h e = e ∙ get_or-take n order i 0 h
+
+  front_all : n ≤ length order → length (take n order) ≤ i → n ≤ i
+  front_all long h = omega (arith, length-take n order)
 
 -- the streams below rank i have been written
 abbrev pub fin_of : (ℕ → ℕ) → (streams i w : ℕ) → Bool
@@ -79,8 +92,8 @@ module _ {s types look kept starts order : List ℕ} {inputs streams n : ℕ} (x
       }
 
   -- the stream that the order has at place i
-  pub named_by : (i : ℕ) → i < streams → {y : ℕ} → y ≡ get_or order i 0 → y < streams
-  named_by i h e = omega (arith, e, x.ordered.named i h)
+  pub named_by : (i : ℕ) → i < length (take streams order) → {y : ℕ} → y ≡ get_or (take streams order) i 0 → y < streams
+  named_by i h e = let l = in_front streams order h in omega (arith, front_at streams order l e, x.ordered.named i l)
 
 -- how far the turn is: the streams below rank i have been written
 abbrev pub Upto : (s types look kept starts order : List ℕ) (inputs streams : ℕ) (ws st : List ℕ) (n t i : ℕ) (cur : List ℕ) → Type 0
@@ -140,12 +153,15 @@ module _ (s types look kept starts order : List ℕ) (inputs streams : ℕ) (ws 
           rw (g.after_is, d)
           (part_skip (plan x) x.rank (FitsIn types) x.announced n t ws st x.fits (fin_of x.rank streams i) (fin_of x.rank streams (i + 1)) cur y pt d only)
 
-  pub upto_more : (i v : ℕ) {cur after : List ℕ} → length cur ≡ length st → i < streams → v ≡ get_or order i 0
+  pub upto_more : (i v : ℕ) {cur after : List ℕ} → length cur ≡ length st → i < length (take streams order) → v ≡ get_or (take streams order) i 0
       → Stepped s types look kept starts order inputs streams ws cur n t v after
       → Upto s types look kept starts order inputs streams ws st n t i cur → Upto s types look kept starts order inputs streams ws st n t (i + 1) after
-  upto_more i v {cur} {after} e h ev g u x = step_by x i cur (u x) h e (rw ev at g) (due (of look) n t (get_or order i 0)) refl
+  upto_more i v {cur} {after} e h ev g u x =
+      let l = in_front streams order h in
+      step_by x i cur (u x) l e (rw (front_at streams order l ev) at g) (due (of look) n t (get_or order i 0)) refl
 
-  pub upto_all : (i : ℕ) {cur : List ℕ} → streams ≤ i → Upto s types look kept starts order inputs streams ws st n t i cur → Turns s types look kept starts order inputs streams ws st n t cur
-  upto_all i h u x =
+  pub upto_all : (i : ℕ) {cur : List ℕ} → length order ≡ most_streams → length (take streams order) ≤ i → Upto s types look kept starts order inputs streams ws st n t i cur → Turns s types look kept starts order inputs streams ws st n t cur
+  upto_all i long h u x =
+      let all : streams ≤ i = front_all streams order (omega (arith, long, x.few)) h in
       part_end (plan x) x.rank (FitsIn types) x.announced n t ws st x.fits (fin_of x.rank streams i) _ (u x)
       (λ v l. fin_yes x.rank streams i v l (omega (arith, x.announced.schedule.small v l)))

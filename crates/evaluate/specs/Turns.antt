@@ -2,13 +2,12 @@
 -- `order` hold a number for each stream, ws are the row's words, t is the turn. Assumes nothing.
 use Rattle.std.specs.Prelude.{ℕ, ◌≤◌, ◌<◌, ◌^◌, ◌≡◌, Bool, List, length, get_or, take}
 use Rattle.basis.specs.Firsts.{of}
-use Rattle.basis.specs.Rows.{Shaped}
 use Rattle.limits.specs.Limits.{most_streams, most_levels}
 use Rattle.node.specs.Kinds.{Tabulated}
 use Rattle.expression.specs.Syntax.{Expr}
 use Rattle.expression.specs.Grammar.{good, parse}
 use Rattle.run.specs.Run.{Announced, store_after}
-use Rattle.store.specs.Store.{layout_of, frame_rows, frame_entries}
+use Rattle.store.specs.Store.{layout_of}
 use Rattle.meaning.specs.Plans.{plan_of, FitsIn}
 
 -- `order` lists the streams by rank, each once
@@ -32,12 +31,11 @@ pub record Turnable (s types look kept starts order : List ℕ) (inputs streams 
   pub behind : ℕ → ℕ
   pub parsed : (y : ℕ) → inputs ≤ y → y < streams → parse most_levels (take streams types) s (wanted y) (get_or starts y 0) ≡ good (eqs y) (behind y)
 
--- What a turn needs: that, the constant table and a frame to lay, a row known, and the row's words where inputs are due; `given` words are in
+-- What a turn needs: that, the constant table, a row known, and the row's words where inputs are due; `given` words are in
 -- the row.
-pub record CanTurn (s : List ℕ) (kinds : List (List ℕ)) (types look kept starts order : List ℕ) (frame : List (List ℕ)) (inputs streams m given n t : ℕ) : Type 0 where
+pub record CanTurn (s : List ℕ) (kinds : List (List ℕ)) (types look kept starts order : List ℕ) (inputs streams m given n t : ℕ) : Type 0 where
   pub turnable : Turnable s types look kept starts order inputs streams m
   pub kinds_are : Tabulated kinds
-  pub shape : Shaped frame_rows frame_entries frame
   pub row : 0 < n
   pub rows : n < 2 ^ 32
   pub words : t < n → inputs ≤ given

@@ -5,37 +5,30 @@
 ghost use Rattle.std.specs.Prelude.{◌≡◌, length};
 ghost use Rattle.node.specs.Kinds.{Tabulated};
 ghost use Rattle.store.specs.Store.{Framed};
-ghost use Rattle.evaluate.specs.Evaluation.{referred_in, Referable, evaluated_of, LeafStands, OperatorStands, Evaluates, EvaluatesLeaf};
+ghost use Rattle.evaluate.specs.Evaluation.{referred_in, Referable, LeafStands, OperatorStands, Evaluates, EvaluatesLeaf};
 ghost use Rattle.evaluate.specs.Turns.{CanTurn, Turns};
 
 use limits::STREAMS_MOST;
 use node::{ENTRIES, KINDS_MOST, Node};
-use store::{FRAME_ENTRIES, FRAME_ROWS, KNOWN, POSITION, TURN, TYPE};
+use store::Frame;
 use value::Value;
-use wire::byte_size;
 
 // The note of the weight 0, to reckon with.
 const RISE_OF_ZERO: u64 = limits::RISE_OF_ZERO as u64;
 
 // at(v, k) at the turn's position j: "v at j+k, or the default where j+k is below 0 or not below N". `word` is the default's.
-fn referred(
-    store: &[u32],
-    frame: &[[u32; FRAME_ENTRIES]; FRAME_ROWS],
-    v: usize,
-    k: i8,
-    word: u32,
-) -> Value
+fn referred(store: &[u32], frame: &Frame, v: usize, k: i8, word: u32) -> Value
     requires { Referable frame.now (length store.now) v k }
     ensures { result ≡ referred_in frame.now store.now v k word }
 {
-    let noted = wire::word_wide(frame[TURN][POSITION]) + wire::short_wide(expression::rising_of(k));
+    let noted = u64::from(frame.position) + u64::from(expression::rising_of(k));
     if RISE_OF_ZERO <= noted {
         let q = noted - RISE_OF_ZERO;
-        if q < wire::word_wide(frame[TURN][KNOWN]) {
+        if q < u64::from(frame.known) {
             return store::read(store, frame, v, q as u32);
         }
     }
-    value::reading(frame[v][TYPE] as u8, word)
+    value::reading(frame.parts[v].kind, word)
 }
 
 // An expression's value, and the place behind the expression.
@@ -45,39 +38,33 @@ pub struct Evaluated {
     pub next: usize,
 }
 
-// The same, made of its two parts.
-fn valued(value: Value, next: usize) -> Evaluated
-    ensures { result ≡ evaluated_of value next }
-{
-    Evaluated {
-        value: value,
-        next: next,
-    }
-}
-
 // The constant or reference at `at`. The node is an enum, and "the checker's and evaluator's decision goes over it".
-fn leaf(
-    bytes: &[u8],
-    store: &[u32],
-    frame: &[[u32; FRAME_ENTRIES]; FRAME_ROWS],
-    at: usize,
-) -> Evaluated
+fn leaf(bytes: &[u8], store: &[u32], frame: &Frame, at: usize) -> Evaluated
     requires { LeafStands frame.now (length store.now) bytes.now at }
     ensures { EvaluatesLeaf frame.now store.now bytes.now at result }
 {
     let kind = bytes[at];
     let start = at + 1;
     let node = node::node_of(bytes, kind, start);
-    let next = start + byte_size(node::leaf_body(node));
+    let next = start + usize::from(node::leaf_body(node));
     match node {
-        Node::Constant(t, w) => valued(value::reading(t, w), next),
-        Node::Now(v) => valued(
-            store::read(store, frame, byte_size(v), frame[TURN][POSITION]),
+        Node::Constant(t, w) => Evaluated {
+            value: value::reading(t, w),
             next,
-        ),
-        Node::At(v, k, w) => valued(referred(store, frame, byte_size(v), k, w), next),
+        },
+        Node::Now(v) => Evaluated {
+            value: store::read(store, frame, usize::from(v), frame.position),
+            next,
+        },
+        Node::At(v, k, w) => Evaluated {
+            value: referred(store, frame, usize::from(v), k, w),
+            next,
+        },
         // Never: a leaf stands there.
-        Node::Operator(_) => valued(Value::Flag(false), next),
+        Node::Operator(_) => Evaluated {
+            value: Value::Flag(false),
+            next,
+        },
     }
 }
 
@@ -88,16 +75,16 @@ fn eval(
     bytes: &[u8],
     kinds: &[[u8; ENTRIES]; KINDS_MOST],
     store: &[u32],
-    frame: &[[u32; FRAME_ENTRIES]; FRAME_ROWS],
+    frame: &Frame,
     at: usize,
     levels: u8,
 ) -> Evaluated
     requires { Tabulated kinds.now × OperatorStands levels frame.now (length store.now) bytes.now at }
     ensures { Evaluates levels frame.now store.now bytes.now at result }
 {
-    let held = &store[0..store::lent(frame)];
+    let held = &store[..frame.lent];
     let op = bytes[at];
-    let operands = node::operands_of(kinds, byte_size(op));
+    let operands = node::operands_of(kinds, usize::from(op));
     let left = levels - 1;
     let one = if node::is_leaf(bytes, at + 1) {
         leaf(bytes, held, frame, at + 1)
@@ -121,11 +108,16 @@ fn eval(
             } else {
                 eval(bytes, kinds, held, frame, next, left)
             };
-            let c = three.value;
-            return valued(value::choose(a, b, c), three.next);
+            return Evaluated {
+                value: value::choose(a, b, three.value),
+                next: three.next,
+            };
         }
     }
-    valued(value::apply(op, a, b), next)
+    Evaluated {
+        value: value::apply(op, a, b),
+        next,
+    }
 }
 
 // Turn t, done in place: it "writes exactly the values, inputs included, whose position is that turn less their look-ahead and lies in the
@@ -141,31 +133,29 @@ pub fn turn(
     kept: &[u16; STREAMS_MOST],
     starts: &[u16; STREAMS_MOST],
     order: &[u8; STREAMS_MOST],
-    frame: &mut [[u32; FRAME_ENTRIES]; FRAME_ROWS],
+    frame: &mut Frame,
     inputs: usize,
     streams: usize,
     known: u64,
     t: u64,
 )
-    requires { CanTurn bytes.now kinds.now types.now look.now kept.now starts.now order.now frame.old
+    requires { CanTurn bytes.now kinds.now types.now look.now kept.now starts.now order.now
         inputs streams (length store.old) (length row.now) known t }
     ensures { Turns bytes.now types.now look.now kept.now starts.now
         order.now inputs streams row.now store.old known t store.new
         × Framed types.now look.now kept.now streams known t frame.new }
 {
-    store::lay(types, look, kept, streams, known, t, frame);
-    store::lend(frame, store.len());
-    let mut i = 0;
-    while i < streams {
-        let y = byte_size(order[i]);
-        let ahead = wire::short_wide(look[y]);
+    store::lay(types, look, kept, streams, known, t, store.len(), frame);
+    for stream in &order[..streams] {
+        let y = usize::from(*stream);
+        let ahead = u64::from(look[y]);
         if ahead <= t && t < known + ahead {
             let position = (t - ahead) as u32;
             if y < inputs {
                 store::write(store, frame, y, position, value::reading(types[y], row[y]));
             } else {
-                frame[TURN][POSITION] = position;
-                let at = wire::short_size(starts[y]);
+                frame.position = position;
+                let at = usize::from(starts[y]);
                 let e = if node::is_leaf(bytes, at) {
                     leaf(bytes, store, frame, at)
                 } else {
@@ -175,6 +165,5 @@ pub fn turn(
                 store::write(store, frame, y, position, value);
             }
         }
-        i += 1;
     }
 }

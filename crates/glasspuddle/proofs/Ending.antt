@@ -1,5 +1,5 @@
 -- Laws of what is printed behind the end of the input, and of the whole run. Assumes nothing.
-use Rattle.std.proofs.Common.{ℕ, ◌≡◌, ◌+◌, ◌≤◌, ◌<◌, ◌^◌, Bool, true, false, not, Option, None, Some, List, [], ◌++◌, length, take, get_or, refl, sym, ap, ◌∙◌, subst, append_assoc, append-nil, length-append, arith}
+use Rattle.std.proofs.Common.{ℕ, ◌≡◌, ◌+◌, ◌≤◌, ◌<◌, ◌^◌, Bool, true, false, Option, None, Some, List, [], ◌++◌, length, take, get_or, refl, sym, ap, ◌∙◌, subst, append_assoc, append-nil, length-append, arith}
 use native.Mathlib.Decide.{dec_lt}
 use Rattle.std.proofs.lemmas.List.{get_or_append_left}
 use Rattle.std.proofs.Math.ListN.{get_or-eq_default}
@@ -16,7 +16,7 @@ use Rattle.feed.specs.Printed.{printed}
 use Rattle.feed.specs.Stands.{StandsAt, reading, Stands, Standing, Ends, Closing, EndsIn, Finishes}
 use Rattle.glasspuddle.specs.Written.{Written}
 use Rattle.glasspuddle.specs.Program.{Heard, Rested, Answered}
-use Rattle.glasspuddle.proofs.Putting.{not_not, written_more, written_all}
+use Rattle.glasspuddle.proofs.Putting.{written_more, written_all}
 
 -- behind the end of the input some text was printed, and is written
 pub record Resting (fine : Bool) (x : State) (table store : List ℕ) (y : Ending) (store1 : List ℕ) (out out1 : Option (List ℕ)) : Type 0 where
@@ -102,9 +102,8 @@ module _
       (Appends-trans out out1 out2 h.said r.text (written_all true _ _ h.said h.written refl) (written_all fine _ _ r.text r.written e))
 
 pub answered :
-    {went fine : Bool} {y : State} {table store part : List ℕ} (into into1 : Option (List ℕ)) {out out1 out2 : Option (List ℕ)} →
-    not went ≡ false → Heard went y table store part into into1 out out1 → Rested fine y table store out1 out2 → Answered fine into out out2
-answered None into1 g h r = λ e. tt
-answered (Some input) None g h r = λ e. absurd h.read
-answered {went = went} {y = y} {table = table} {store = store} {part = part} (Some input) (Some left) {out = out} {out1 = out1} g h r =
-    λ e bytes long. all_written (subst (λ (b : Bool). Heard b y table store part (Some input) (Some left) out out1) (not_not went g) h) r e bytes long
+    {fine : Bool} {y : State} {table store part : List ℕ} (into into1 : Option (List ℕ)) {out out1 out2 : Option (List ℕ)} →
+    Heard true y table store part into into1 out out1 → Rested fine y table store out1 out2 → Answered fine into out out2
+answered None into1 h r = λ e. tt
+answered (Some input) None h r = λ e. absurd h.read
+answered (Some input) (Some left) h r = λ e bytes long. all_written h r e bytes long

@@ -1,12 +1,17 @@
 -- What the program's loops promise of a reader and a writer whose bytes are known (document 01, "The program"): what was read was handed to
 -- `feed`, and what `feed` made of it was written. Assumes nothing.
-use Rattle.std.specs.Prelude.{ℕ, ◌≡◌, ◌+◌, ◌≤◌, ◌<◌, ◌^◌, Bool, true, List, [], ◌++◌, length, take, Option, IfSome}
+use Rattle.std.specs.Prelude.{ℕ, ◌≡◌, ◌+◌, ◌≤◌, ◌<◌, ◌^◌, Bool, true, false, List, [], ◌++◌, length, take, Option, IfSome, Result, MatchResult}
 use Rattle.std.specs.Io.KnownBytes.{Appends, Consumes, IsAtEnd}
 use Rattle.wire.specs.Bytes.{AllBytes}
 use Rattle.feed.specs.declared.State.{State}
 use Rattle.feed.specs.Printed.{printed}
 use Rattle.feed.specs.Stands.{reading, Stands}
+use Rattle.glasspuddle.specs.declared.Failure.{Failure}
 use Rattle.glasspuddle.specs.Written.{Written}
+
+-- what holds of the state reached, and of whether nothing failed: where something did, no state is answered, and there is one
+abbrev pub Reached : Result State Failure → (Bool → State → Type 0) → Type 0
+Reached r P = MatchResult r (P true) (λ _. (y : State) × P false y)
 
 -- a piece was taken from state x to state y, all of it where nothing failed and the program reads on; what it gave was written
 pub record Taken (fine : Bool) (x : State) (table store part piece : List ℕ) (y : State) (table1 store1 part1 : List ℕ) (out out1 : Option (List ℕ)) : Type 0 where

@@ -3,15 +3,17 @@
 use mathlib.Core.Path.{◌≡◌, refl, ap, ap₂, ◌∙◌, subst}
 use mathlib.Core.Logic.{◌⊎◌, inl, inr, ⊎_elim}
 use mathlib.Core.List.{List}
-use Prim.Native.Nat.{ℕ, zero, suc, ◌+◌, ◌-◌, ◌*◌, ◌≤◌, ◌<◌, max}
+use Prim.Native.Nat.{ℕ, zero, suc, ◌+◌, ◌-◌, ◌≤◌, ◌<◌, max}
 use native.Mathlib.Omega.{arith}
 use native.Mathlib.Nat.{not-suc-le-zero, le_of_suc-le-suc}
 use native.Mathlib.Numerals.{add-one}
 use lib.ListN.{get_or}
 use lib.IntN.{ℤ}
+use Rattle.basis.specs.Firsts.{of}
 use Rattle.basis.specs.Notes.{falling}
-use Rattle.limits.specs.Limits.{most_streams, most_back, most_ahead, fall_of_zero, most_note}
+use Rattle.limits.specs.Limits.{most_streams, most_back, most_ahead, fall_of_zero, most_note, most_look}
 use Rattle.basis.specs.Parts.{up, down}
+use Rattle.basis.specs.Rows.{entry}
 use Rattle.basis.specs.Edges.{Edge, Has, Among}
 use Rattle.basis.proofs.Tests.{lt_or_eq, lt_or_ge}
 use Rattle.walks.specs.Walks.{Within, Kept}
@@ -19,7 +21,7 @@ use Rattle.walks.specs.Longest.{fall_of, kept_from}
 use Rattle.walks.proofs.Notes.{note_all, NoteOf, note_real}
 use Rattle.walks.proofs.Kept.{kept_is}
 use Rattle.walks.proofs.Unique.{kept_one}
-use Rattle.kept.specs.Kept.{slack_at_of, slack_over, kept_over}
+use Rattle.kept.specs.Kept.{Looks, Falls, slack_at_of, slack_over, kept_over}
 
 pub slack_there : (f a b : ℕ) → (f ≡ 0 → ⊥) → slack_at_of f a b ≡ a + f - (fall_of_zero + b)
 slack_there zero a b h = absurd (h refl)
@@ -34,13 +36,13 @@ unfolding slack_over
 slack_over_most fall look v zero B h = omega arith
 slack_over_most fall look v (suc n) B h = omega (arith, slack_over_most fall look v n B (λ y p. h y (omega arith)), slack_at_most (fall n) (look n) (look v), h n (omega arith))
 
-pub slack_over_more : (fall look : ℕ → ℕ) (v y : ℕ) {most slack r : ℕ} → most ≡ slack_over fall look v y → slack ≡ slack_at_of (fall y) (look y) (look v) → r ≡ max most slack → r ≡ slack_over fall look v (y + 1)
-unfolding slack_over
-slack_over_more fall look v y e g h = rw add-one (h ∙ ap₂ max e g)
+-- from arrays within their bounds
+pub slack_small : (look : List ℕ) (fall : List (List ℕ)) (v n : ℕ) → v < most_streams → n ≤ most_streams → Looks look → Falls fall → slack_over (λ y. entry fall y v) (of look) v n ≤ most_look + most_note
+slack_small look fall v n h k a b = slack_over_most (λ y. entry fall y v) (of look) v n (most_look + most_note) (λ y p. omega (arith, a y (omega arith), b y v (omega arith) h))
 
-pub kept_over_is : (look fall : List ℕ) (v : ℕ) {y most : ℕ} → y ≡ most_streams → most ≡ slack_over (λ z. get_or fall (z * most_streams + v) 0) (λ z. get_or look z 0) v y → most + 1 ≡ kept_over look fall v
-unfolding kept_over
-kept_over_is look fall v e h = rw (add-one, h, e)
+pub slack_over_more : (fall look : ℕ → ℕ) (v y : ℕ) → slack_over fall look v (y + 1) ≡ max (slack_over fall look v y) (slack_at_of (fall y) (look y) (look v))
+unfolding slack_over
+slack_over_more fall look v y = rw add-one
 
 -- ---- the kept numbers of a list of edges
 
@@ -98,6 +100,6 @@ module _ (es : List Edge) (S : ℕ) (ends : Within (Among es) S) (few : S ≤ mo
       real q = at_edge q.0 _ q.1 (note_real falling q.0 v es)
 
   -- from an array that holds `fall_of`, the kept numbers of the edges
-  pub kept_over_edges : (look fall : List ℕ) (v : ℕ) → ((y : ℕ) → y < most_streams → get_or fall (y * most_streams + v) 0 ≡ fall_of es y v) → kept_over look fall v ≡ kept_from es (λ y. get_or look y 0) v
+  pub kept_over_edges : (look : List ℕ) (fall : List (List ℕ)) (v : ℕ) → ((y : ℕ) → y < most_streams → entry fall y v ≡ fall_of es y v) → kept_over look fall v ≡ kept_from es (λ y. get_or look y 0) v
   unfolding kept_over
-  kept_over_edges look fall v h = ap suc (slack_over_same (λ y. get_or fall (y * most_streams + v) 0) (λ y. fall_of es y v) (λ y. get_or look y 0) v most_streams h) ∙ kept_one (slack_kept (λ y. get_or look y 0) v) (kept_is (λ y. get_or look y 0) v es)
+  kept_over_edges look fall v h = ap suc (slack_over_same (λ y. entry fall y v) (λ y. fall_of es y v) (λ y. get_or look y 0) v most_streams h) ∙ kept_one (slack_kept (λ y. get_or look y 0) v) (kept_is (λ y. get_or look y 0) v es)

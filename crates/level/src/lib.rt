@@ -13,32 +13,27 @@ pub fn is_nan_bits(w: u32) -> bool
 {
     let exponent = (w >> 23) & 0xff;
     let fraction = w & 0x7f_ffff;
-    if exponent == 0xff {
-        fraction != 0
-    } else {
-        false
-    }
+    exponent == 0xff && fraction != 0
 }
 
-// The level that a word stands for. A NaN is made by 0/0, since `f32::from_bits` is defined only
+// The level that a word stands for. A NaN is the constant, since `f32::from_bits` is defined only
 // off the NaN patterns.
 pub fn level_of(w: u32) -> f32
     ensures { result ≡ of_bits binary32 w }
 {
     if is_nan_bits(w) {
-        0.0 / 0.0
+        f32::NAN
     } else {
         f32::from_bits(w)
     }
 }
 
 // The image of a level. A result that is NaN has no bits to mask: `f32::to_bits` is defined only
-// off NaN, since a machine may give its NaN any pattern. So NaN is found before, as the one level
-// that differs from itself.
+// off NaN, since a machine may give its NaN any pattern. So NaN is found before.
 pub fn image_of(x: f32) -> u32
     ensures { result ≡ to_bits binary32 x }
 {
-    if x != x { 0x7fc0_0000 } else { f32::to_bits(x) }
+    if x.is_nan() { 0x7fc0_0000 } else { x.to_bits() }
 }
 
 // Kind 2A: all 32 bits equal.

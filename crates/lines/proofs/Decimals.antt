@@ -1,15 +1,17 @@
--- Laws of a number's decimal digits: by its last digit, and how many there are.
+-- Laws of a number's decimal digits: by its last digit, that they are std's, and how many there are.
 -- Assumes nothing.
 use mathlib.Core.Path.{◌≡◌, sym, ap, ◌∙◌}
 use mathlib.Core.Logic.{◌⊎◌, inl, inr}
-use mathlib.Core.List.{List, [], ◌∷◌, ◌++◌, append_assoc}
+use mathlib.Core.List.{List, [], ◌∷◌, ◌++◌}
 use Prim.Native.Nat.{ℕ, zero, suc, ◌+◌, ◌/◌, ◌%◌, ◌^◌, ◌<◌, ◌≤◌}
 use native.Mathlib.Nat.{pow-suc, div-lt_iff_lt-mul}
 use native.Mathlib.Omega.{arith}
 use borrow.Author.Tests.{lt-ltb, le-ltb}
 use lib.ListN.{length, length-append}
+use Rattle.std.specs.Fmt.{decimal as std_decimal}
+use Rattle.std.proofs.lemmas.Fmt.{decimal_by_steps}
 use Rattle.basis.proofs.Tests.{lt_or_ge}
-use Rattle.lines.specs.Lines.{last_digits, decimal, two_digits}
+use Rattle.lines.specs.Lines.{last_digits, decimal}
 
 one_digit : (most n : ℕ) → n < 10 → last_digits (suc most) n ≡ (48 + n) ∷ []
 unfolding last_digits
@@ -37,24 +39,12 @@ pub decimal_by_last_digit : (n : ℕ) → 10 ≤ n → decimal n ≡ decimal (n 
 unfolding decimal
 decimal_by_last_digit n h = more_digits n n h ∙ ap (λ (l : List ℕ). l ++ ((48 + n % 10) ∷ [])) (enough_digits n (suc (n / 10)) (n / 10) (omega arith) (omega arith))
 
--- two digits at a time
-pub decimal_below_hundred : (n : ℕ) → 10 ≤ n → n < 100 → decimal n ≡ two_digits n
-decimal_below_hundred n h k =
-    let f : n / 10 < 10 = omega arith in
-    decimal_by_last_digit n h ∙ ap (λ (l : List ℕ). l ++ ((48 + n % 10) ∷ [])) (decimal_below_ten (n / 10) f)
-
-pub decimal_by_last_two : (n : ℕ) → 100 ≤ n → decimal n ≡ decimal (n / 100) ++ two_digits (n % 100)
-decimal_by_last_two n h =
-    let f : 10 ≤ n / 10 = omega arith in
-    let a : n / 10 / 10 ≡ n / 100 = omega arith in
-    let b : n / 10 % 10 ≡ n % 100 / 10 = omega arith in
-    let d : n % 10 ≡ n % 100 % 10 = omega arith in
-    decimal_by_last_digit n (omega arith) ∙ ap (λ (l : List ℕ). l ++ ((48 + n % 10) ∷ [])) (decimal_by_last_digit (n / 10) f)
-    ∙ append_assoc (decimal (n / 10 / 10)) ((48 + n / 10 % 10) ∷ []) ((48 + n % 10) ∷ [])
-    ∙ (λ i. decimal (a i) ++ ((48 + b i) ∷ (48 + d i) ∷ []))
-
-pub two_more_digits : (n : ℕ) → 100 ≤ n → length (decimal n) ≡ length (decimal (n / 100)) + 2
-two_more_digits n h = ap length (decimal_by_last_two n h) ∙ length-append (decimal (n / 100)) (two_digits (n % 100))
+-- the digits that std writes of a number of 64 bits
+pub decimal_as_std : (n : ℕ) → n < 2 ^ 64 → std_decimal n ≡ decimal n
+decimal_as_std n h = decimal_by_steps (λ n ds. ds ≡ decimal n) (λ n p. sym (decimal_below_ten n p)) more n h
+  where
+    more : (n : ℕ) (ds : List ℕ) → 10 ≤ n → ds ≡ decimal (n / 10) → ds ++ ((48 + n % 10) ∷ []) ≡ decimal n
+    more n ds p e = ap (λ (l : List ℕ). l ++ ((48 + n % 10) ∷ [])) e ∙ sym (decimal_by_last_digit n p)
 
 pub one_more_digit : (n : ℕ) → 10 ≤ n → length (decimal n) ≡ length (decimal (n / 10)) + 1
 one_more_digit n h = ap length (decimal_by_last_digit n h) ∙ length-append (decimal (n / 10)) ((48 + n % 10) ∷ [])

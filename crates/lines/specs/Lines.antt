@@ -12,10 +12,6 @@ last_digits (suc most) n = or_else (ltb n 10) ((48 + n) ∷ []) λ _. last_digit
 unfoldable pub decimal : ℕ → List ℕ
 decimal n = last_digits (suc n) n
 
--- the two digits of a number below 100
-abbrev pub two_digits : ℕ → List ℕ
-two_digits n = (48 + n / 10) ∷ (48 + n % 10) ∷ []
-
 -- a lower-case hexadecimal digit: `0` to `9`, then `a` to `f`
 unfoldable pub hex_digit_of : ℕ → ℕ
 hex_digit_of d = cond (ltb d 10) (48 + d) (87 + d)

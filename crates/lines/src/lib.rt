@@ -1,20 +1,23 @@
 // The program's lines, written into a lent slice (document 01, "The program"). Each function answers where its text ends.
 #![tactic(auto)]
 
-ghost use Rattle.std.specs.Prelude.{◌≡◌, ◌+◌, ◌≤◌, ◌<◌, length};
+ghost use Rattle.std.specs.Prelude.{◌+◌, ◌≤◌, length};
 ghost use Rattle.basis.specs.Written.{Wrote};
-ghost use Rattle.lines.specs.Lines.{decimal, two_digits, spaced, pair, hex_digit_of, hex2, hex8, value_line, trigger_line, refusal_line, stop_line, end_line};
+ghost use Rattle.lines.specs.Lines.{decimal, spaced, pair, hex8, value_line, trigger_line, refusal_line, stop_line, end_line};
 ghost use Rattle.lines.specs.Lines.{most_value_line, most_trigger_line, most_refusal_line, most_stop_line, most_end_line};
+
+// "each ended by byte 0A"
+const LINE_END: u8 = 0x0A;
 
 // `v stream position value`
 pub fn put_value_line(out: &mut [u8], at: usize, stream: u8, position: u32, value: u32) -> usize
     requires { at + most_value_line ≤ length out.old }
     ensures { Wrote out.old at (value_line stream position value) out.new result }
 {
-    let a = put_pair(out, at, b'v', stream as u64, position as u64);
+    let a = put_pair(out, at, b'v', stream, u64::from(position));
     let b = wire::put_byte(out, a, b' ');
     let c = put_hex8(out, b, value);
-    wire::put_byte(out, c, 0x0A)
+    wire::put_byte(out, c, LINE_END)
 }
 
 // `t stream position`
@@ -22,8 +25,8 @@ pub fn put_trigger_line(out: &mut [u8], at: usize, stream: u8, position: u32) ->
     requires { at + most_trigger_line ≤ length out.old }
     ensures { Wrote out.old at (trigger_line stream position) out.new result }
 {
-    let a = put_pair(out, at, b't', stream as u64, position as u64);
-    wire::put_byte(out, a, 0x0A)
+    let a = put_pair(out, at, b't', stream, u64::from(position));
+    wire::put_byte(out, a, LINE_END)
 }
 
 // `r number place`
@@ -31,8 +34,8 @@ pub fn put_refusal_line(out: &mut [u8], at: usize, number: u8, place: usize) -> 
     requires { at + most_refusal_line ≤ length out.old }
     ensures { Wrote out.old at (refusal_line number place) out.new result }
 {
-    let a = put_pair(out, at, b'r', number as u64, place as u64);
-    wire::put_byte(out, a, 0x0A)
+    let a = put_pair(out, at, b'r', number, place as u64);
+    wire::put_byte(out, a, LINE_END)
 }
 
 // `s n`
@@ -42,7 +45,7 @@ pub fn put_stop_line(out: &mut [u8], at: usize, n: u64) -> usize
 {
     let a = wire::put_byte(out, at, b's');
     let b = put_spaced(out, a, n);
-    wire::put_byte(out, b, 0x0A)
+    wire::put_byte(out, b, LINE_END)
 }
 
 // `end N`
@@ -50,20 +53,18 @@ pub fn put_end_line(out: &mut [u8], at: usize, rows: u32) -> usize
     requires { at + most_end_line ≤ length out.old }
     ensures { Wrote out.old at (end_line rows) out.new result }
 {
-    let a = wire::put_byte(out, at, b'e');
-    let b = wire::put_byte(out, a, b'n');
-    let c = wire::put_byte(out, b, b'd');
-    let d = put_spaced(out, c, rows as u64);
-    wire::put_byte(out, d, 0x0A)
+    let a = wire::put_bytes(out, at, b"end");
+    let b = put_spaced(out, a, u64::from(rows));
+    wire::put_byte(out, b, LINE_END)
 }
 
 // What the lines of two numbers begin with.
-fn put_pair(out: &mut [u8], at: usize, letter: u8, first: u64, second: u64) -> usize
+fn put_pair(out: &mut [u8], at: usize, letter: u8, first: u8, second: u64) -> usize
     requires { at + 3 + length (decimal first) + length (decimal second) ≤ length out.old }
     ensures { Wrote out.old at (pair letter first second) out.new result }
 {
     let a = wire::put_byte(out, at, letter);
-    let b = put_spaced(out, a, first);
+    let b = put_spaced(out, a, u64::from(first));
     put_spaced(out, b, second)
 }
 
@@ -76,28 +77,13 @@ fn put_spaced(out: &mut [u8], at: usize, x: u64) -> usize
     put_decimal(out, next, x)
 }
 
-// In decimal, without leading zeros. The digits in front are written first, so that there is one division for each two digits.
+// In decimal, without leading zeros.
 pub fn put_decimal(out: &mut [u8], at: usize, x: u64) -> usize
     requires { at + length (decimal x) ≤ length out.old }
     ensures { Wrote out.old at (decimal x) out.new result }
 {
-    if x < 10 {
-        return wire::put_byte(out, at, 48 + x as u8);
-    }
-    if x < 100 {
-        return put_two(out, at, x as u8);
-    }
-    let next = put_decimal(out, at, x / 100);
-    put_two(out, next, (x % 100) as u8)
-}
-
-// Two digits, of a number below 100.
-fn put_two(out: &mut [u8], at: usize, x: u8) -> usize
-    requires { (at + 2 ≤ length out.old) × (x < 100) }
-    ensures { Wrote out.old at (two_digits x) out.new result }
-{
-    let next = wire::put_byte(out, at, 48 + x / 10);
-    wire::put_byte(out, next, 48 + x % 10)
+    let mut buffer = itoa::Buffer::new();
+    wire::put_bytes(out, at, buffer.format(x).as_bytes())
 }
 
 // Eight hexadecimal digits.
@@ -105,25 +91,7 @@ pub fn put_hex8(out: &mut [u8], at: usize, w: u32) -> usize
     requires { at + 8 ≤ length out.old }
     ensures { Wrote out.old at (hex8 w) out.new result }
 {
-    let a = put_hex2(out, at, (w / 16777216 % 256) as u8);
-    let b = put_hex2(out, a, (w / 65536 % 256) as u8);
-    let c = put_hex2(out, b, (w / 256 % 256) as u8);
-    put_hex2(out, c, (w % 256) as u8)
-}
-
-fn put_hex2(out: &mut [u8], at: usize, b: u8) -> usize
-    requires { at + 2 ≤ length out.old }
-    ensures { Wrote out.old at (hex2 b) out.new result }
-{
-    let high = hex_digit(b / 16);
-    let low = hex_digit(b % 16);
-    let next = wire::put_byte(out, at, high);
-    wire::put_byte(out, next, low)
-}
-
-fn hex_digit(d: u8) -> u8
-    requires { d < 16 }
-    ensures { result ≡ hex_digit_of d }
-{
-    if d < 10 { 48 + d } else { 87 + d }
+    let end = at + 8;
+    hex::encode_to_slice(w.to_be_bytes(), &mut out[at..end]).unwrap();
+    end
 }

@@ -15,14 +15,15 @@ use Rattle.table.specs.Table.{Decoded}
 use Rattle.announce.specs.declared.Checked.{Checked}
 use Rattle.announce.specs.Announced.{announced}
 use Rattle.prepare.specs.PlanFor.{table_in, table_for, first_bad_of}
-use Rattle.prepare.specs.Preparing.{Brief, Prepares}
+use Rattle.prepare.specs.declared.Prepared.{Prepared}
+use Rattle.prepare.specs.Preparing.{brief_by, Prepares}
 use Rattle.prepare.proofs.Held.{types_held}
 use Rattle.monitor.specs.declared.Phase.{Phase}
 use Rattle.monitor.specs.declared.Phase.TheVariants.{Reading, Draining, Over}
 use Rattle.monitor.specs.declared.Run.{Run}
 use Rattle.monitor.specs.declared.Turn.{Turn}
 use Rattle.monitor.specs.declared.Turn.TheVariants.{Row, Closing}
-use Rattle.monitor.specs.Refusals.{Fault, fault, fine, refuse_if, after_table, eqbs, phase_agrees, record_agrees_of, of_table_of, is_reading_of, is_draining_of, open_fault, close_refusal, close_fault_of, row_refusal, row_fault_of, drain_refusal, drain_fault_of, turn_fault_of}
+use Rattle.monitor.specs.Refusals.{Fault, fault, fine, refuse_if, after_table, eqbs, phase_agrees, record_agrees_of, of_table_of, is_reading_of, is_draining_of, open_fault, close_refusal, close_fault_of, row_refusal, row_fault_of, drain_refusal, drain_fault_of, agrees_with, row_tests_of, drain_tests_of, close_tests_of, turn_fault_of, turn_tests}
 
 -- ---- the table and the record's numbers
 
@@ -73,43 +74,37 @@ unfolding first_bad_of
 first_bad_same ts us ws h zero x = refl
 first_bad_same ts us ws h (suc k) x = λ i. cond (eqb (h x i) 0 && ltb 1 (get_or ws x 0)) x (first_bad_same ts us ws h k (suc x) i)
 
--- ---- by a brief: the record's numbers are those announced
-abbrev agrees_by : Run → Brief → Bool
-agrees_by r p = record_agrees_of r.phase r.rows r.done p.closing
+-- ---- by what is prepared: the record's numbers are those announced
 
-abbrev pub turn_by_of : Turn → Run → Brief → (lent : ℕ) (ws : List ℕ) (space : ℕ) → Fault
-turn_by_of Row r p lent ws space = row_refusal (agrees_by r p) r.phase r.rows p.words p.room p.inputs (first_bad_of p.types ws p.inputs 0) lent (length ws) space
-turn_by_of Closing r p lent ws space = drain_refusal (agrees_by r p) r.phase p.words p.room lent space
-
-module _ {s : List ℕ} (r : Run) {p : Brief} (x : Prepares s r.look r.kept p) where
-  of_table : of_table_of r (announced s) ≡ agrees_by r p
+module _ {s : List ℕ} (r : Run) (q : Prepared) {types roles starts order : List ℕ} (x : Prepares s r.look r.kept (brief_by q types roles starts order)) where
+  of_table : of_table_of r (announced s) ≡ agrees_with r q
   unfolding of_table_of
   of_table =
       rw (x.look_is, x.kept_is, eqbs_same r.look, eqbs_same r.kept)
       (ap (record_agrees_of r.phase r.rows r.done) (sym x.closing_is))
 
-  pub close_prepared : close_fault_of s r ≡ close_refusal (agrees_by r p) r.phase
+  pub close_prepared : close_fault_of s r ≡ close_tests_of r q
   close_prepared = table_passed s _ x.accepted ∙ ap (λ (b : Bool). close_refusal b r.phase) of_table
 
-  pub drain_prepared : (lent space : ℕ) → drain_fault_of s r lent space ≡ drain_refusal (agrees_by r p) r.phase p.words p.room lent space
+  pub drain_prepared : (lent space : ℕ) → drain_fault_of s r lent space ≡ drain_tests_of r q lent space
   drain_prepared lent space =
       table_passed s _ x.accepted ∙ (λ i. drain_refusal (of_table i) r.phase (sym x.words_are i) (sym x.room_is i) lent space)
 
-  inputs_same : (table_for s).inputs ≡ p.inputs
+  inputs_same : (table_for s).inputs ≡ q.inputs
   inputs_same = ap (λ (d : Decoded). (table_in d).inputs) x.decodes ∙ sym x.inputs_are
 
-  types_same : (v : ℕ) → get_or (table_for s).types v 0 ≡ get_or p.types v 0
+  types_same : (v : ℕ) → get_or (table_for s).types v 0 ≡ get_or types v 0
   types_same v = ap (λ (d : Decoded). get_or (table_in d).types v 0) x.decodes ∙ types_held x v
 
-  bad_same : (ws : List ℕ) → first_bad_of (table_for s).types ws (table_for s).inputs 0 ≡ first_bad_of p.types ws p.inputs 0
-  bad_same ws = first_bad_same (table_for s).types p.types ws types_same (table_for s).inputs 0 ∙ ap (λ (n : ℕ). first_bad_of p.types ws n 0) inputs_same
+  bad_same : (ws : List ℕ) → first_bad_of (table_for s).types ws (table_for s).inputs 0 ≡ first_bad_of types ws q.inputs 0
+  bad_same ws = first_bad_same (table_for s).types types ws types_same (table_for s).inputs 0 ∙ ap (λ (n : ℕ). first_bad_of types ws n 0) inputs_same
 
-  pub row_prepared : (lent : ℕ) (ws : List ℕ) (space : ℕ) → row_fault_of s r lent ws space ≡ row_refusal (agrees_by r p) r.phase r.rows p.words p.room p.inputs (first_bad_of p.types ws p.inputs 0) lent (length ws) space
+  pub row_prepared : (lent : ℕ) (ws : List ℕ) (space : ℕ) → row_fault_of s r lent ws space ≡ row_tests_of r q types lent ws space
   row_prepared lent ws space =
       table_passed s _ x.accepted
       ∙ (λ i. row_refusal (of_table i) r.phase r.rows (sym x.words_are i) (sym x.room_is i) (inputs_same i) (bad_same ws i) lent (length ws) space)
 
-  pub turn_prepared : (k : Turn) (lent : ℕ) (ws : List ℕ) (space : ℕ) → turn_fault_of k s r lent ws space ≡ turn_by_of k r p lent ws space
+  pub turn_prepared : (k : Turn) (lent : ℕ) (ws : List ℕ) (space : ℕ) → turn_fault_of k s r lent ws space ≡ turn_tests k r q types lent ws space
   turn_prepared Row lent ws space = row_prepared lent ws space
   turn_prepared Closing lent ws space = drain_prepared lent space
 
@@ -138,62 +133,9 @@ module _ (s : List ℕ) {c : Checked} (e : c ≡ announced s) where
   unfolding open_fault
   open_0 lent h g = let k : (announced s).words ≤ lent = subst (λ (d : Checked). d.words ≤ lent) e g in table_passed s _ (passed h) ∙ rw (le-ltb _ _ k)
 
--- ---- closing
-
-module _ (o : Bool) (phase : Phase) where
-  pub close_10 : o ≡ false → fault foreign_record 0 ≡ close_refusal o phase
-  unfolding close_refusal
-  close_10 e = rw e
-
-  pub close_12 : o ≡ true → is_reading_of phase ≡ false → fault wrong_phase 0 ≡ close_refusal o phase
-  unfolding close_refusal
-  close_12 e q = rw (e, q)
-
-  pub close_0 : o ≡ true → is_reading_of phase ≡ true → fine ≡ close_refusal o phase
-  unfolding close_refusal
-  close_0 e q = rw (e, q)
-
 -- ---- a row
 
 module _ (o : Bool) (phase : Phase) (rows words room inputs bad lent given space : ℕ) where
-  pub row_10 : o ≡ false → fault foreign_record 0 ≡ row_refusal o phase rows words room inputs bad lent given space
-  unfolding row_refusal
-  row_10 e = rw e
-
-  module _ (e : o ≡ true) where
-    pub row_11 : lent < words → fault short_store 0 ≡ row_refusal o phase rows words room inputs bad lent given space
-    unfolding row_refusal
-    row_11 h = rw (e, lt-ltb _ _ h)
-
-    module _ (s : words ≤ lent) where
-      pub row_12 : is_reading_of phase ≡ false → fault wrong_phase 0 ≡ row_refusal o phase rows words room inputs bad lent given space
-      unfolding row_refusal
-      row_12 q = rw (e, le-ltb _ _ s, q)
-
-      module _ (q : is_reading_of phase ≡ true) where
-        pub row_13 : most_rows ≤ rows → fault row_limit 0 ≡ row_refusal o phase rows words room inputs bad lent given space
-        unfolding row_refusal
-        row_13 f = rw (e, le-ltb _ _ s, q, le-leb _ _ f)
-
-        module _ (f : rows < most_rows) where
-          pub row_14 : (given ≡ inputs → ⊥) → fault row_length_of 0 ≡ row_refusal o phase rows words room inputs bad lent given space
-          unfolding row_refusal
-          row_14 l = rw (e, le-ltb _ _ s, q, lt-leb _ _ f, ne_eqb _ _ l)
-
-          module _ (l : given ≡ inputs) {b : ℕ} (h : b ≡ bad) where
-            pub row_15 : b < inputs → fault wrong_flag b ≡ row_refusal o phase rows words room inputs bad lent given space
-            unfolding row_refusal
-            row_15 g = rw (e, le-ltb _ _ s, q, lt-leb _ _ f, eq-eqb _ _ l, ← h, lt-ltb _ _ g)
-
-            module _ (g : inputs ≤ b) where
-              pub row_16 : space < room → fault short_output 0 ≡ row_refusal o phase rows words room inputs bad lent given space
-              unfolding row_refusal
-              row_16 k = rw (e, le-ltb _ _ s, q, lt-leb _ _ f, eq-eqb _ _ l, ← h, le-ltb _ _ g, lt-ltb _ _ k)
-
-              pub row_0 : room ≤ space → fine ≡ row_refusal o phase rows words room inputs bad lent given space
-              unfolding row_refusal
-              row_0 k = rw (e, le-ltb _ _ s, q, lt-leb _ _ f, eq-eqb _ _ l, ← h, le-ltb _ _ g, le-ltb _ _ k)
-
   -- what an accepted row call knows
   pub record RowAccepted : Type 0 where
     pub store_long : words ≤ lent
@@ -222,29 +164,6 @@ module _ (o : Bool) (phase : Phase) (rows words room inputs bad lent given space
 -- ---- draining
 
 module _ (o : Bool) (phase : Phase) (words room lent space : ℕ) where
-  pub drain_10 : o ≡ false → fault foreign_record 0 ≡ drain_refusal o phase words room lent space
-  unfolding drain_refusal
-  drain_10 e = rw e
-
-  module _ (e : o ≡ true) where
-    pub drain_11 : lent < words → fault short_store 0 ≡ drain_refusal o phase words room lent space
-    unfolding drain_refusal
-    drain_11 h = rw (e, lt-ltb _ _ h)
-
-    module _ (s : words ≤ lent) where
-      pub drain_12 : is_draining_of phase ≡ false → fault wrong_phase 0 ≡ drain_refusal o phase words room lent space
-      unfolding drain_refusal
-      drain_12 q = rw (e, le-ltb _ _ s, q)
-
-      module _ (q : is_draining_of phase ≡ true) where
-        pub drain_16 : space < room → fault short_output 0 ≡ drain_refusal o phase words room lent space
-        unfolding drain_refusal
-        drain_16 h = rw (e, le-ltb _ _ s, q, lt-ltb _ _ h)
-
-        pub drain_0 : room ≤ space → fine ≡ drain_refusal o phase words room lent space
-        unfolding drain_refusal
-        drain_0 h = rw (e, le-ltb _ _ s, q, le-ltb _ _ h)
-
   -- what an accepted draining call knows
   pub record DrainAccepted : Type 0 where
     pub store_long : words ≤ lent
@@ -320,29 +239,33 @@ module _ (s : List ℕ) (r : Run) (lent : ℕ) (ws : List ℕ) (space : ℕ) {f 
 
 -- ---- a record that is not of the table
 
-pub foreign_number : (s : List ℕ) {f : Fault} → f ≡ after_table s (fault foreign_record 0) → f.number ≡ 0 → ⊥
-unfolding after_table
-foreign_number s {f} e h = go (eqb (announced s).number 0) refl (ap (λ (g : Fault). g.number) (sym e) ∙ h)
-  where
-    go : (b : Bool) → eqb (announced s).number 0 ≡ b → (refuse_if (not b) (announced s).number (announced s).place (fault foreign_record 0)).number ≡ 0 → ⊥
-    go true q k = omega (arith, k)
-    go false q k = eqb-false _ _ q k
+row_10 : (phase : Phase) (rows words room inputs bad lent given space : ℕ) → row_refusal false phase rows words room inputs bad lent given space ≡ fault foreign_record 0
+unfolding row_refusal
+row_10 phase rows words room inputs bad lent given space = refl
+
+drain_10 : (phase : Phase) (words room lent space : ℕ) → drain_refusal false phase words room lent space ≡ fault foreign_record 0
+unfolding drain_refusal
+drain_10 phase words room lent space = refl
+
+close_10 : (phase : Phase) → close_refusal false phase ≡ fault foreign_record 0
+unfolding close_refusal
+close_10 phase = refl
 
 module _ (s : List ℕ) (r : Run) (no : (announced s).number ≡ 0 → (announced s).look ≡ r.look → (announced s).kept ≡ r.kept → ⊥) where
   pub foreign_row : (lent : ℕ) (ws : List ℕ) (space : ℕ) → after_table s (fault foreign_record 0) ≡ row_fault_of s r lent ws space
   foreign_row lent ws space =
       let c = announced s in
       let t = table_for s in
-      foreign_refused s r no (λ b. row_refusal b r.phase r.rows c.words c.room t.inputs (first_bad_of t.types ws t.inputs 0) lent (length ws) space) (sym (row_10 false _ _ _ _ _ _ _ _ _ refl))
+      foreign_refused s r no (λ b. row_refusal b r.phase r.rows c.words c.room t.inputs (first_bad_of t.types ws t.inputs 0) lent (length ws) space) (row_10 _ _ _ _ _ _ _ _ _)
 
   pub foreign_drain : (lent space : ℕ) → after_table s (fault foreign_record 0) ≡ drain_fault_of s r lent space
   foreign_drain lent space =
       let c = announced s in
-      foreign_refused s r no (λ b. drain_refusal b r.phase c.words c.room lent space) (sym (drain_10 false _ _ _ _ _ refl))
+      foreign_refused s r no (λ b. drain_refusal b r.phase c.words c.room lent space) (drain_10 _ _ _ _ _)
 
   pub foreign_turn : (k : Turn) (lent : ℕ) (ws : List ℕ) (space : ℕ) → after_table s (fault foreign_record 0) ≡ turn_fault_of k s r lent ws space
   foreign_turn Row lent ws space = foreign_row lent ws space
   foreign_turn Closing lent ws space = foreign_drain lent space
 
   pub foreign_close : after_table s (fault foreign_record 0) ≡ close_fault_of s r
-  foreign_close = foreign_refused s r no (λ b. close_refusal b r.phase) (sym (close_10 false _ refl))
+  foreign_close = foreign_refused s r no (λ b. close_refusal b r.phase) (close_10 _)

@@ -17,7 +17,7 @@ ghost use Rattle.monitor.specs.Calls.{open_call, row_call_of, close_call, drain_
 use limits::{Fault, Refusal, STREAMS_MOST};
 use node::{ENTRIES, KINDS_MOST};
 use prepare::Prepared;
-use store::{FRAME_ENTRIES, FRAME_ROWS};
+use store::{Frame, NO_PART};
 
 // The phases, by the bytes that C has for them.
 #[derive(Clone, Copy, Debug, PartialEq, Eq)]
@@ -167,7 +167,12 @@ fn turn_out(
 {
     let inputs = prepared.inputs;
     let streams = prepared.streams;
-    let mut frame = [[0u32; FRAME_ENTRIES]; FRAME_ROWS];
+    let mut frame = Frame {
+        parts: [NO_PART; STREAMS_MOST],
+        known: 0,
+        position: 0,
+        lent: 0,
+    };
     evaluate::turn(
         table, kinds, store, row, types, look, kept, starts, order, &mut frame, inputs, streams,
         known, t,

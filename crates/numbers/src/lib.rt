@@ -31,19 +31,15 @@ pub fn sums(
     let mut words = 0;
     let mut triggers = 0;
     let mut closing = 0;
-    let mut v = 0;
-    while v < s {
-        words += wire::short_size(kept[v]);
-        triggers += wire::byte_size(roles[v]);
-        if closing < look[v] {
-            closing = look[v];
-        }
-        v += 1;
+    for v in 0..s {
+        words += usize::from(kept[v]);
+        triggers += usize::from(roles[v]);
+        closing = look[v].max(closing);
     }
     Totals {
-        words: words,
-        triggers: triggers,
-        closing: closing,
+        words,
+        triggers,
+        closing,
     }
 }
 
@@ -52,11 +48,9 @@ pub fn zero_past(look: &[u16; STREAMS_MOST], kept: &[u16; STREAMS_MOST], s: usiz
     requires { s ≤ most_streams }
     ensures { Decides result (ZeroPast look.now s × ZeroPast kept.now s) }
 {
-    let mut any: u16 = 0;
-    let mut v = s;
-    while v < STREAMS_MOST {
-        any = any | look[v] | kept[v];
-        v += 1;
+    let mut any = 0;
+    for v in s..STREAMS_MOST {
+        any |= look[v] | kept[v];
     }
     any == 0
 }

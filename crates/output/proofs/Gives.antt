@@ -13,6 +13,7 @@ use Rattle.basis.specs.Firsts.{of}
 use Rattle.run.specs.Turn.{due}
 use Rattle.basis.specs.Given.{Given}
 use Rattle.run.specs.Run.{gather}
+use Rattle.store.specs.declared.Frame.{Frame}
 use Rattle.store.specs.Store.{word_of, place_in, Framed, Findable}
 use Rattle.store.proofs.Places.{findable, is_word}
 use Rattle.output.specs.Encoding.{Emitted, room_from_of, word_on, records_on, output_of, CanGive, CanEmit}
@@ -44,7 +45,7 @@ module _ (roles look kept st : List ℕ) (n t y : ℕ) where
   word_of_turn e f = rw (← e) f
 
   -- the word that the frame has for the turn
-  pub word_found : {types : List ℕ} {streams : ℕ} {frame : List (List ℕ)} {a w : ℕ} → Framed types look kept streams n t frame → y < streams → 0 < of kept y → a ≡ get_or look y 0 → a ≤ t → t - a < n
+  pub word_found : {types : List ℕ} {streams : ℕ} {frame : Frame} {a w : ℕ} → Framed types look kept streams n t frame → y < streams → 0 < of kept y → a ≡ get_or look y 0 → a ≤ t → t - a < n
       → w ≡ get_or st (place_in frame y (t - a)) 0 → w ≡ word_of kept st y (t - a)
   word_found f l some e h k g = is_word f l (record { inside = k; come = omega (arith, e); stays = omega (arith, e, some) }) st g
 
@@ -144,7 +145,7 @@ module _ (roles look kept st : List ℕ) (n t : ℕ) where
       wrote_front (wrote_as (sym e ∙ ap (λ (l : List ℕ). x.done ++ l) (output_none y) ∙ append-nil x.done) x.wrote)
 
 -- what each stream needs to give its bytes
-module _ {roles look : List ℕ} {frame : List (List ℕ)} {words room n t inputs streams : ℕ} (x : CanEmit roles look frame words room n t inputs streams) {y : ℕ} (l : y < streams) where
+module _ {roles look : List ℕ} {frame : Frame} {words room n t inputs streams : ℕ} (x : CanEmit roles look frame words room n t inputs streams) {y : ℕ} (l : y < streams) where
   -- each list of kept numbers that the frame was laid from has some for y
   pub keeps_some : {types kept : List ℕ} → Framed types look kept streams n t frame → 0 < of kept y
   keeps_some f = omega (arith, f.laid.keeps y l, x.framed.laid.keeps y l, x.some y l)

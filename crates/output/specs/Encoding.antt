@@ -5,6 +5,7 @@ use Rattle.basis.specs.Firsts.{of}
 use Rattle.run.specs.Turn.{due}
 use Rattle.limits.specs.Limits.{most_streams}
 use Rattle.run.specs.Run.{gather}
+use Rattle.store.specs.declared.Frame.{Frame}
 use Rattle.store.specs.Store.{layout_of, word_of, Framed, Findable}
 use Rattle.records.specs.Kinds.{value_size_of, trigger_size_of}
 use Rattle.records.specs.Encoding.{record_of, encode}
@@ -32,19 +33,19 @@ unfoldable pub output_of : (roles look kept st : List ℕ) (n t k y : ℕ) → L
 output_of roles look kept st n t k y = encode roles (gather (of look) n t (word_on look kept st t) k y)
 
 -- y's bytes fit from `at` on into an output of `room` bytes, and a store of so many words has y's word where the frame of turn t says
-pub record CanGive (roles look : List ℕ) (frame : List (List ℕ)) (words room n t y at : ℕ) : Type 0 where
+pub record CanGive (roles look : List ℕ) (frame : Frame) (words room n t y at : ℕ) : Type 0 where
   pub few : y < most_streams
   pub found : of look y ≤ t → t - of look y < n → Findable frame words y (t - of look y)
   pub rows : n < 2 ^ 32
   pub fits : at + room_from_of roles 1 y ≤ room
 
 -- what y gives, by the numbers that the frame was laid from
-abbrev pub Gives : (roles look : List ℕ) (frame : List (List ℕ)) (st : List ℕ) (n t y : ℕ) → (List ℕ → Type 0) → Type 0
+abbrev pub Gives : (roles look : List ℕ) (frame : Frame) (st : List ℕ) (n t y : ℕ) → (List ℕ → Type 0) → Type 0
 Gives roles look frame st n t y P =
     (types kept : List ℕ) (streams : ℕ) → Framed types look kept streams n t frame → y < streams → 0 < of kept y → P (records_on roles look kept st n t y)
 
 -- all outputs' bytes fit, and the store is as long as announced
-pub record CanEmit (roles look : List ℕ) (frame : List (List ℕ)) (words room n t inputs streams : ℕ) : Type 0 where
+pub record CanEmit (roles look : List ℕ) (frame : Frame) (words room n t inputs streams : ℕ) : Type 0 where
   pub types : List ℕ
   pub kept : List ℕ
   pub framed : Framed types look kept streams n t frame
@@ -61,6 +62,6 @@ pub record Emitted (bytes before after : List ℕ) (count : ℕ) : Type 0 where
   pub written : after ≡ overwritten bytes before
 
 -- the outputs' values of turn t, by the numbers that the frame was laid from
-abbrev pub Emits : (roles look : List ℕ) (frame : List (List ℕ)) (st : List ℕ) (n t inputs streams : ℕ) (before after : List ℕ) (count : ℕ) → Type 0
+abbrev pub Emits : (roles look : List ℕ) (frame : Frame) (st : List ℕ) (n t inputs streams : ℕ) (before after : List ℕ) (count : ℕ) → Type 0
 Emits roles look frame st n t inputs streams before after count =
     (types kept : List ℕ) → Framed types look kept streams n t frame → Emitted (output_of roles look kept st n t (streams - inputs) inputs) before after count

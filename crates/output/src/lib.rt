@@ -7,7 +7,7 @@ ghost use Rattle.basis.specs.Written.{Wrote};
 ghost use Rattle.output.specs.Encoding.{CanGive, Gives, CanEmit, Emits};
 
 use limits::STREAMS_MOST;
-use store::{FRAME_ENTRIES, FRAME_ROWS};
+use store::Frame;
 
 // What the stream y gives on turn t: "a trigger stream's true value is followed by record 51".
 fn give(
@@ -15,7 +15,7 @@ fn give(
     out: &mut [u8],
     roles: &[u8; STREAMS_MOST],
     look: &[u16; STREAMS_MOST],
-    frame: &[[u32; FRAME_ENTRIES]; FRAME_ROWS],
+    frame: &Frame,
     known: u64,
     t: u64,
     y: usize,
@@ -25,7 +25,7 @@ fn give(
     ensures { Gives roles.now look.now frame.now store.now known t y
         (λ bytes. Wrote out.old at bytes out.new result) }
 {
-    let ahead = wire::short_wide(look[y]);
+    let ahead = u64::from(look[y]);
     if t < ahead {
         return at;
     }
@@ -37,10 +37,8 @@ fn give(
     let word = store::word(store, frame, y, place);
     let stream = y as u8;
     let next = records::put_value(out, at, stream, place, word);
-    if roles[y] == 1 {
-        if word != 0 {
-            return records::put_trigger(out, next, stream, place);
-        }
+    if roles[y] == 1 && word != 0 {
+        return records::put_trigger(out, next, stream, place);
     }
     next
 }
@@ -51,7 +49,7 @@ pub fn emit(
     out: &mut [u8],
     roles: &[u8; STREAMS_MOST],
     look: &[u16; STREAMS_MOST],
-    frame: &[[u32; FRAME_ENTRIES]; FRAME_ROWS],
+    frame: &Frame,
     inputs: usize,
     streams: usize,
     known: u64,
@@ -61,12 +59,9 @@ pub fn emit(
     ensures { Emits roles.now look.now frame.now store.now known t inputs streams
         out.old out.new result }
 {
-    let mut count: usize = 0;
-    let mut y = inputs;
-    while y < streams {
-        let next = give(store, out, roles, look, frame, known, t, y, count);
-        count = next;
-        y += 1;
+    let mut count = 0;
+    for y in inputs..streams {
+        count = give(store, out, roles, look, frame, known, t, y, count);
     }
     count
 }

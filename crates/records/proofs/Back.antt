@@ -11,25 +11,28 @@ use Rattle.wire.specs.Bytes.{AllBytes, le4, word_at}
 use Rattle.wire.proofs.Words.{no_bytes, byte_more, bytes_append, word_bytes, word_back}
 use Rattle.records.specs.Kinds.{kind_value, value_size_of, kind_trigger, trigger_size_of}
 use Rattle.records.specs.Encoding.{value_record_of, trigger_record_of, raised, record_of, encode}
-use Rattle.records.specs.Reading.{Item, value, trigger, record_size_of, read_items, values_in, read_back_of, items_of, items_given, Fits, AllFit, none, more}
-use Rattle.records.proofs.Reading.{item_of_value, item_of_trigger, size_of_whole_value, size_of_whole_trigger, size_within, reading_stops, items_by_first}
+use Rattle.records.specs.declared.Kind.TheVariants.{Value, Trigger}
+use Rattle.records.specs.Reading.{Item, value, trigger, StartsWith, record_size_of, read_items, values_in, read_back_of, items_of, items_given, Fits, AllFit, none, more}
+use Rattle.records.proofs.Reading.{size_within, size_of_start, value_starts, trigger_starts, reading_stops, items_by_first}
 
 -- a record in front
 value_in_front : (y p w : ℕ) (rest : List ℕ) → p < 2 ^ 32 → w < 2 ^ 32 → read_items (value_record_of y p w ++ rest) ≡ value y p w ∷ read_items rest
 unfolding le4 word_at
 value_in_front y p w rest hp hw =
     let l : List ℕ = value_record_of y p w ++ rest in
-    let e : record_size_of l ≡ value_size_of = size_of_whole_value l refl (omega arith) in
+    let s : StartsWith Value l = record { first = refl; whole = omega arith } in
+    let e : record_size_of l ≡ value_size_of = size_of_start l Value s in
     items_by_first l (omega arith)
-    ∙ ap₂ ◌∷◌ (item_of_value l refl ∙ ap₂ (value y) (word_back p hp) (word_back w hw)) (ap (λ (n : ℕ). read_items (drop n l)) e)
+    ∙ ap₂ ◌∷◌ (value_starts l s ∙ ap₂ (value y) (word_back p hp) (word_back w hw)) (ap (λ (n : ℕ). read_items (drop n l)) e)
 
 trigger_in_front : (y p : ℕ) (rest : List ℕ) → p < 2 ^ 32 → read_items (trigger_record_of y p ++ rest) ≡ trigger y p ∷ read_items rest
 unfolding le4 word_at
 trigger_in_front y p rest hp =
     let l : List ℕ = trigger_record_of y p ++ rest in
-    let e : record_size_of l ≡ trigger_size_of = size_of_whole_trigger l refl (omega arith) in
+    let s : StartsWith Trigger l = record { first = refl; whole = omega arith } in
+    let e : record_size_of l ≡ trigger_size_of = size_of_start l Trigger s in
     items_by_first l (omega arith)
-    ∙ ap₂ ◌∷◌ (item_of_trigger l refl ∙ ap (trigger y) (word_back p hp)) (ap (λ (n : ℕ). read_items (drop n l)) e)
+    ∙ ap₂ ◌∷◌ (trigger_starts l s ∙ ap (trigger y) (word_back p hp)) (ap (λ (n : ℕ). read_items (drop n l)) e)
 
 module _ (roles : List ℕ) where
   value_and_trigger : (g : Given ℕ) (rest : List ℕ) → Fits g → read_items (record_of roles g ++ rest) ≡ items_of roles g ++ read_items rest

@@ -1,26 +1,21 @@
 -- Laws of the record that a list of bytes starts with, and of records one after the other.
 -- Assumes nothing.
 use mathlib.Core.Path.{◌≡◌, refl, sym, ap, ◌∙◌}
-use mathlib.Core.Bool.{Bool, true, false}
 use mathlib.Core.List.{List, [], ◌∷◌}
 use mathlib.Core.Logic.{◌⊎◌, inl, inr}
-use Prim.Native.Nat.{ℕ, zero, suc, ◌-◌, ◌<◌, ◌≤◌}
+use Prim.Native.Nat.{ℕ, zero, suc, ◌<◌, ◌≤◌}
 use native.Mathlib.Omega.{arith}
-use borrow.Author.Tests.{eq-eqb, ne_eqb, le-leb, lt-leb, eqb-true, eqb-false}
-use lib.Dec.{eqb}
+use borrow.Author.Tests.{eq-eqb, ne_eqb, le-leb, lt-leb}
 use lib.ListN.{length, get_or, drop, length-drop}
+use Rattle.std.specs.Prelude.{Option, Some, None, slice_get, unwrap_or}
+use Rattle.std.proofs.lemmas.Option.{none-some, unwrap_or-slice_get}
 use Rattle.basis.proofs.Tests.{lt_or_ge}
 use Rattle.wire.specs.Bytes.{word_at}
-use Rattle.wire.proofs.Words.{first_behind}
-use Rattle.records.specs.Kinds.{kind_value, value_size_of, kind_trigger, trigger_size_of, size_of_kind_of}
-use Rattle.records.specs.Reading.{Item, value, trigger, record_size_of, item_of, first_items, read_items}
-use Rattle.records.proofs.Sizes.{size_of_value, size_of_trigger, size_of_other}
-
--- what a list of bytes starts with: no record, whole, or a value's, or a trigger's
-pub data Start (l : List ℕ) : Type 0 where
-  no_record : record_size_of l ≡ 0 → Start l
-  value_record : get_or l 0 0 ≡ kind_value → record_size_of l ≡ value_size_of → item_of l ≡ value (get_or l 1 0) (word_at l 2) (word_at l 6) → Start l
-  trigger_record : get_or l 0 0 ≡ kind_trigger → record_size_of l ≡ trigger_size_of → item_of l ≡ trigger (get_or l 1 0) (word_at l 2) → Start l
+use Rattle.records.specs.declared.Kind.{Kind}
+use Rattle.records.specs.declared.Kind.TheVariants.{Value, Trigger}
+use Rattle.records.specs.Kinds.{kind_value, size_for, size_of_kind_of}
+use Rattle.records.specs.Reading.{Item, value, trigger, StartsWith, record_size_of, item_of, first_items, read_items}
+use Rattle.records.proofs.Sizes.{size_of_named}
 
 module _ (l : List ℕ) where
   -- a record of which bytes are missing is none
@@ -28,32 +23,9 @@ module _ (l : List ℕ) where
   unfolding record_size_of
   part_record h = rw (lt-leb _ _ h)
 
-  pub whole_record : size_of_kind_of (get_or l 0 0) ≤ length l → record_size_of l ≡ size_of_kind_of (get_or l 0 0)
+  whole_record : size_of_kind_of (get_or l 0 0) ≤ length l → record_size_of l ≡ size_of_kind_of (get_or l 0 0)
   unfolding record_size_of
   whole_record h = rw (le-leb _ _ h)
-
-  pub item_of_value : get_or l 0 0 ≡ kind_value → item_of l ≡ value (get_or l 1 0) (word_at l 2) (word_at l 6)
-  unfolding item_of
-  item_of_value k = rw (eq-eqb _ _ k)
-
-  pub item_of_trigger : get_or l 0 0 ≡ kind_trigger → item_of l ≡ trigger (get_or l 1 0) (word_at l 2)
-  unfolding item_of
-  item_of_trigger k = rw (ne_eqb (get_or l 0 0) kind_value (λ e. omega arith))
-
-  pub size_of_whole_value : get_or l 0 0 ≡ kind_value → value_size_of ≤ length l → record_size_of l ≡ value_size_of
-  size_of_whole_value k h = whole_record (omega (arith, size_of_value k)) ∙ size_of_value k
-
-  pub size_of_whole_trigger : get_or l 0 0 ≡ kind_trigger → trigger_size_of ≤ length l → record_size_of l ≡ trigger_size_of
-  size_of_whole_trigger k h = whole_record (omega (arith, size_of_trigger k)) ∙ size_of_trigger k
-
-  pub start_of : Start l
-  start_of = by (lt_or_ge (length l) (size_of_kind_of (get_or l 0 0))) (eqb (get_or l 0 0) kind_value) (eqb (get_or l 0 0) kind_trigger) refl refl
-    where
-      by : (length l < size_of_kind_of (get_or l 0 0)) ⊎ (size_of_kind_of (get_or l 0 0) ≤ length l) → (v t : Bool) → eqb (get_or l 0 0) kind_value ≡ v → eqb (get_or l 0 0) kind_trigger ≡ t → Start l
-      by (inl h) v t p q = no_record (part_record h)
-      by (inr h) true t p q = value_record (eqb-true _ _ p) (whole_record h ∙ size_of_value (eqb-true _ _ p)) (item_of_value (eqb-true _ _ p))
-      by (inr h) false true p q = trigger_record (eqb-true _ _ q) (whole_record h ∙ size_of_trigger (eqb-true _ _ q)) (item_of_trigger (eqb-true _ _ q))
-      by (inr h) false false p q = no_record (whole_record h ∙ size_of_other (eqb-false _ _ p) (eqb-false _ _ q))
 
   pub size_within : record_size_of l ≤ length l
   size_within = by (lt_or_ge (length l) (size_of_kind_of (get_or l 0 0)))
@@ -62,16 +34,29 @@ module _ (l : List ℕ) where
       by (inl h) = omega (arith, part_record h)
       by (inr h) = omega (arith, whole_record h)
 
--- the record at i
-module _ (l : List ℕ) (i : ℕ) {size : ℕ} (sized : size ≡ size_of_kind_of (get_or l i 0)) where
-  size_behind : size ≡ size_of_kind_of (get_or (drop i l) 0 0)
-  size_behind = sized ∙ ap size_of_kind_of (sym (first_behind l i))
+  -- a byte that names no kind starts none
+  pub no_record : size_of_kind_of (get_or l 0 0) ≡ 0 → record_size_of l ≡ 0
+  no_record e = omega (arith, whole_record (omega arith))
 
-  pub part_record_at : length l - i < size → 0 ≡ record_size_of (drop i l)
-  part_record_at h = sym (part_record (drop i l) (omega (arith, size_behind, length-drop i l)))
+  -- a whole record: its size, and what it says by its kind
+  pub size_of_start : (k : Kind) → StartsWith k l → record_size_of l ≡ size_for k
+  size_of_start k s = let e = size_of_named k s.first in whole_record (omega (arith, s.whole)) ∙ e
 
-  pub whole_record_at : size ≤ length l - i → size ≡ record_size_of (drop i l)
-  whole_record_at h = size_behind ∙ sym (whole_record (drop i l) (omega (arith, size_behind, length-drop i l)))
+  pub value_starts : StartsWith Value l → item_of l ≡ value (get_or l 1 0) (word_at l 2) (word_at l 6)
+  unfolding item_of
+  value_starts s = rw (eq-eqb _ _ s.first)
+
+  pub trigger_starts : StartsWith Trigger l → item_of l ≡ trigger (get_or l 1 0) (word_at l 2)
+  unfolding item_of
+  trigger_starts s = let e = s.first in rw (ne_eqb (get_or l 0 0) kind_value (λ d. omega arith))
+
+-- the first byte, where there is one
+pub first_is : (l : List ℕ) {b : ℕ} → Some b ≡ slice_get l 0 → get_or l 0 0 ≡ b
+first_is l e = sym (unwrap_or-slice_get l 0 0) ∙ ap (λ (o : Option ℕ). unwrap_or o 0) (sym e)
+
+pub nothing_starts : (l : List ℕ) → None ≡ slice_get l 0 → record_size_of l ≡ 0
+nothing_starts [] e = omega (arith, size_within [])
+nothing_starts (b ∷ l) e = absurd (none-some b e)
 
 no_more_items : (most : ℕ) (l : List ℕ) → record_size_of l ≡ 0 → first_items most l ≡ []
 unfolding first_items

@@ -2,6 +2,8 @@
 -- `src/lib.rt` has the same for the code. Assumes nothing.
 use Rattle.std.specs.Prelude.{ℕ, ◌+◌, ◌*◌, cond, eqb}
 use Rattle.limits.specs.Limits.{most_outputs}
+use Rattle.records.specs.declared.Kind.{Kind}
+use Rattle.records.specs.declared.Kind.TheVariants.{Value, Trigger}
 
 -- "record 50 (stream, position in 4 bytes, value word)"
 abbrev pub kind_value : ℕ
@@ -17,7 +19,16 @@ kind_trigger = 0x51
 abbrev pub trigger_size_of : ℕ
 trigger_size_of = 6
 
--- the bytes of a record by its kind, 0 where no record has it
+-- the byte that names a kind, and the bytes of its record
+abbrev pub byte_of : Kind → ℕ
+byte_of Value = kind_value
+byte_of Trigger = kind_trigger
+
+abbrev pub size_for : Kind → ℕ
+size_for Value = value_size_of
+size_for Trigger = trigger_size_of
+
+-- the bytes of a record by its first byte, 0 where no record has it
 unfoldable pub size_of_kind_of : ℕ → ℕ
 size_of_kind_of k = cond (eqb k kind_value) value_size_of (cond (eqb k kind_trigger) trigger_size_of 0)
 

@@ -1,10 +1,11 @@
 -- Records read back from their bytes (document 01, "A run"): record by record, up to what is no whole record.
 -- Assumes nothing.
-use Rattle.std.specs.Prelude.{ℕ, zero, suc, ◌<◌, ◌^◌, cond, List, [], ◌∷◌, ◌++◌, eqb, leb, length, get_or, drop}
+use Rattle.std.specs.Prelude.{◌≡◌, ℕ, zero, suc, ◌<◌, ◌≤◌, ◌^◌, cond, List, [], ◌∷◌, ◌++◌, eqb, leb, length, get_or, drop}
 use Rattle.basis.specs.Choices.{or_else}
 use Rattle.basis.specs.Given.{Given}
 use Rattle.wire.specs.Bytes.{word_at}
-use Rattle.records.specs.Kinds.{kind_value, size_of_kind_of}
+use Rattle.records.specs.declared.Kind.{Kind}
+use Rattle.records.specs.Kinds.{kind_value, byte_of, size_for, size_of_kind_of}
 use Rattle.records.specs.Encoding.{raised}
 
 -- what a record says: a value's stream, position and word, or a trigger's stream and position
@@ -15,6 +16,11 @@ pub data Item : Type 0 where
 -- how many bytes the record takes that a list of bytes starts with, 0 where it starts with none, whole
 unfoldable pub record_size_of : List ℕ → ℕ
 record_size_of l = cond (leb (size_of_kind_of (get_or l 0 0)) (length l)) (size_of_kind_of (get_or l 0 0)) 0
+
+-- the list starts with a record of the kind, whole
+pub record StartsWith (k : Kind) (l : List ℕ) : Type 0 where
+  pub first : get_or l 0 0 ≡ byte_of k
+  pub whole : size_for k ≤ length l
 
 -- what that record says: stream in byte 1, position from byte 2 on, value word from byte 6 on
 unfoldable pub item_of : List ℕ → Item

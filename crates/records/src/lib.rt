@@ -2,12 +2,12 @@
 // program"). A writer takes the place where it starts and answers the place behind. It assumes nothing.
 #![tactic(auto)]
 
-ghost use Rattle.std.specs.Prelude.{◌≡◌, ◌+◌, ◌*◌, ◌≤◌, ◌<◌, length, take, drop};
+ghost use Rattle.std.specs.Prelude.{◌≡◌, ◌+◌, ◌*◌, ◌≤◌, length, take, MatchOption};
 ghost use Rattle.basis.specs.Written.{Wrote};
 ghost use Rattle.limits.specs.Limits.{most_streams};
-ghost use Rattle.records.specs.Kinds.{value_size_of, trigger_size_of, size_of_kind_of, room_for};
+ghost use Rattle.records.specs.Kinds.{value_size_of, trigger_size_of, byte_of, size_for, size_of_kind_of, room_for};
 ghost use Rattle.records.specs.Encoding.{value_record_of, trigger_record_of};
-ghost use Rattle.records.specs.Reading.{record_size_of, item_of};
+ghost use Rattle.records.specs.Reading.{StartsWith, record_size_of, item_of};
 ghost use Rattle.records.specs.Lines.{item_line, lines_of};
 
 // "record 50 (stream, position in 4 bytes, value word)"
@@ -26,17 +26,36 @@ pub const ROOM_MOST: usize = (VALUE_BYTES + TRIGGER_BYTES) * limits::OUTPUTS_MOS
 // The lines of one turn: no record's line is longer than three times the record.
 pub const TEXT_MOST: usize = 3 * ROOM_MOST;
 
-// The bytes of a record by its kind, 0 where no record has it.
-pub fn size_of_kind(kind: u8) -> usize
-    ensures { result ≡ size_of_kind_of kind }
-{
-    if kind == KIND_VALUE {
-        return VALUE_BYTES;
+// What a record is.
+#[derive(Clone, Copy)]
+pub enum Kind {
+    Value,
+    Trigger,
+}
+
+impl Kind {
+    // The kind that a record's first byte names, if it names one.
+    #[tactic(auto, unfolding(crate::specs::Kinds::size_of_kind_of))]
+    pub fn of(byte: u8) -> Option<Kind>
+        ensures { MatchOption result (size_of_kind_of byte ≡ 0) (λ k. byte ≡ byte_of k) }
+    {
+        match byte {
+            KIND_VALUE => Some(Kind::Value),
+            KIND_TRIGGER => Some(Kind::Trigger),
+            _ => None,
+        }
     }
-    if kind == KIND_TRIGGER {
-        TRIGGER_BYTES
-    } else {
-        0
+
+    // The bytes of its record.
+    #[tactic(auto, unfolding(crate::specs::Kinds::size_of_kind_of))]
+    pub fn size(self) -> usize
+        ensures by_kind { result ≡ size_for self }
+        ensures by_byte { result ≡ size_of_kind_of (byte_of self) }
+    {
+        match self {
+            Kind::Value => VALUE_BYTES,
+            Kind::Trigger => TRIGGER_BYTES,
+        }
     }
 }
 
@@ -69,56 +88,44 @@ pub fn put_trigger(out: &mut [u8], at: usize, stream: u8, position: u32) -> usiz
     wire::put_word(out, b, position)
 }
 
-// The lines of the records in the first `count` bytes.
+// The lines of the records in the first `count` bytes. What is no record, whole, ends them.
 pub fn put_lines(records: &[u8], count: usize, out: &mut [u8], at: usize) -> usize
     requires { (count ≤ length records.now) × (at + 3 * count ≤ length out.old) }
     ensures { Wrote out.old at (lines_of (take count records.now)) out.new result }
 {
-    put_all_lines(&records[..count], out, at)
-}
-
-// What is no record, whole, ends the lines.
-fn put_all_lines(records: &[u8], out: &mut [u8], at: usize) -> usize
-    requires { at + 3 * length records.now ≤ length out.old }
-    ensures { Wrote out.old at (lines_of records.now) out.new result }
-{
+    let mut left = &records[..count];
     let mut end = at;
-    let mut i: usize = 0;
-    loop {
-        let size = record_size(records, i);
-        if size == 0 {
-            return end;
+    while let Some(kind) = first_record(left) {
+        end = put_record_line(left, kind, out, end);
+        left = &left[kind.size()..];
+    }
+    end
+}
+
+// The line of the record that the bytes start with, which is of the kind given.
+fn put_record_line(bytes: &[u8], kind: Kind, out: &mut [u8], at: usize) -> usize
+    requires { StartsWith kind bytes.now × (at + 3 * size_for kind ≤ length out.old) }
+    ensures { Wrote out.old at (item_line (item_of bytes.now)) out.new result × (result ≤ at + 3 * size_for kind) }
+{
+    let stream = bytes[1];
+    let position = wire::word_at(bytes, 2);
+    match kind {
+        Kind::Value => {
+            let value = wire::word_at(bytes, 6);
+            lines::put_value_line(out, at, stream, position, value)
         }
-        let next = put_record_line(records, i, size, out, end);
-        end = next;
-        i += size;
+        Kind::Trigger => lines::put_trigger_line(out, at, stream, position),
     }
 }
 
-// The line of the record at i, whose size is the one given.
-fn put_record_line(records: &[u8], i: usize, size: usize, out: &mut [u8], at: usize) -> usize
-    requires { (size ≡ record_size_of (drop i records.now)) × (0 < size) × (at + 3 * size ≤ length out.old) }
-    ensures { Wrote out.old at (item_line (item_of (drop i records.now))) out.new result × (result ≤ at + 3 * size) }
+// The kind of the record that the bytes start with, if they start with one, whole.
+fn first_record(bytes: &[u8]) -> Option<Kind>
+    ensures { MatchOption result (record_size_of bytes.now ≡ 0) (λ k. StartsWith k bytes.now) }
 {
-    let kind = records[i];
-    let stream = records[i + 1];
-    let position = wire::word_at(records, i + 2);
-    if kind == KIND_VALUE {
-        let value = wire::word_at(records, i + 6);
-        return lines::put_value_line(out, at, stream, position, value);
+    let kind = Kind::of(*bytes.first()?)?;
+    if kind.size() <= bytes.len() {
+        Some(kind)
+    } else {
+        None
     }
-    lines::put_trigger_line(out, at, stream, position)
-}
-
-// The bytes of the record at i, or 0 where there is none, whole.
-fn record_size(records: &[u8], i: usize) -> usize
-    requires { i ≤ length records.now }
-    ensures { result ≡ record_size_of (drop i records.now) }
-{
-    let left = records.len() - i;
-    if left == 0 {
-        return 0;
-    }
-    let size = size_of_kind(records[i]);
-    if left < size { 0 } else { size }
 }

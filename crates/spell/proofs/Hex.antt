@@ -7,7 +7,7 @@ use native.Mathlib.Numerals.{add-one}
 use mathlib.Core.Path.{◌≡◌, refl, sym, ap, ◌∙◌, subst}
 use mathlib.Core.Logic.{◌⊎◌, inl, inr}
 use mathlib.Core.List.{List, [], ◌∷◌, ◌++◌, append_assoc, append-nil}
-use lib.ListN.{length, get_or, drop}
+use lib.ListN.{length, drop}
 use Rattle.lines.specs.Lines.{hex_digit_of, hex8}
 use Rattle.shapes.specs.Forms.{Fault, here}
 use Rattle.shapes.specs.Stuck.{ended}
@@ -15,19 +15,18 @@ use Rattle.shapes.specs.Numbers.{hex_one, times}
 use Rattle.shapes.specs.Places.{byte_at, Got, Lost}
 use Rattle.shapes.proofs.Numbers.{hex_low, hex_high, hex_known, hex_plain, times_some}
 use Rattle.shapes.proofs.Places.{look, seq_got, seq_lost_first, seq_lost_second}
-use Rattle.spell.specs.Answers.{DigitRead, digit_read, digit_none, HexRead, hex_read, hex_lost}
-use Rattle.spell.specs.declared.Found.TheVariants.{Number, Astray}
-use Rattle.spell.proofs.Numbers.{byte_there, byte_past}
+use Rattle.spell.specs.Answers.{NoDigit, DigitRead, HexRead}
+use Rattle.spell.proofs.Numbers.{byte_past}
 
 -- the bytes of the digits, and those of none
-pub low_digit : (b : ℕ) → 48 ≤ b → b < 58 → DigitRead b (b - 48)
-low_digit b h k = digit_read {d = b - 48} (omega arith) (omega (arith, hex_low (b - 48) (omega arith)))
+pub low_digit : (b d : ℕ) → 48 + d ≡ b → d < 10 → DigitRead b d
+low_digit b d e l = record { small = omega arith; byte_is = omega (arith, hex_low d l) }
 
-pub high_digit : (b : ℕ) → 97 ≤ b → b < 103 → DigitRead b (b - 87)
-high_digit b h k = digit_read {d = b - 87} (omega arith) (omega (arith, hex_high (b - 87) (omega arith)))
+pub high_digit : (b d : ℕ) → 87 + d ≡ b → 10 ≤ d → d < 16 → DigitRead b d
+high_digit b d e h l = record { small = l; byte_is = omega (arith, hex_high d h) }
 
-pub no_digit : (b : ℕ) → ((48 ≤ b) × (b < 58) → ⊥) → ((97 ≤ b) × (b < 103) → ⊥) → DigitRead b 16
-no_digit b m n = digit_none λ d l e. by d l e (hex_known d l)
+pub no_digit : (b : ℕ) → ((48 ≤ b) × (b < 58) → ⊥) → ((97 ≤ b) × (b < 103) → ⊥) → NoDigit b
+no_digit b m n = λ d l e. by d l e (hex_known d l)
   where
     by : (d : ℕ) → d < 16 → b ≡ hex_digit_of d → ((d < 10) × (hex_digit_of d ≡ 48 + d)) ⊎ ((10 ≤ d) × (hex_digit_of d ≡ 87 + d)) → ⊥
     by d l e (inl h) = m (omega (arith, h), omega (arith, h))
@@ -37,7 +36,7 @@ no_digit b m n = digit_none λ d l e. by d l e (hex_known d l)
 digit_got : (text : List ℕ) (at d : ℕ) (l : d < 16) → at ≤ length text → byte_at text at ≡ hex_digit_of d → Got hex_one text at (d, l) (at + 1)
 digit_got text at d l h e = record { ends = refl; reads = look text at h ∙ ap (λ (c : ℕ). c ∷ drop (at + 1) (ended text)) e }
 
-digit_lost : (text : List ℕ) (at : ℕ) → at ≤ length text → ((d : ℕ) → d < 16 → byte_at text at ≡ hex_digit_of d → ⊥) → Lost hex_one text at at
+digit_lost : (text : List ℕ) (at : ℕ) → at ≤ length text → NoDigit (byte_at text at) → Lost hex_one text at at
 digit_lost text at h n = record {
   far = zero;
   place = omega arith;
@@ -47,15 +46,6 @@ digit_lost text at h n = record {
     others = λ x. record { at = zero; early = omega arith; parts = here (λ e. n x.0 x.1 (sym e)) };
   });
 }
-
--- what the test of a digit tells
-pub digit_is : {b d : ℕ} → DigitRead b d → (d ≡ 16 → ⊥) → (d < 16) × (b ≡ hex_digit_of d)
-digit_is (digit_read l e) n = (l, e)
-digit_is (digit_none o) n = absurd (n refl)
-
-digit_not : {b d : ℕ} → DigitRead b d → d ≡ 16 → (k : ℕ) → k < 16 → b ≡ hex_digit_of k → ⊥
-digit_not (digit_read l e) f = absurd (omega arith)
-digit_not (digit_none o) f = o
 
 -- a number in n digits; in eight it is what is printed of a word
 abbrev pub hexes : ℕ → ℕ → List ℕ
@@ -100,47 +90,43 @@ one_left : {text : List ℕ} {at v n : ℕ} → Hexes text at v n (8 - n) → n 
 one_left {text} {at} {v} {n} h l = subst (λ (m : ℕ). Hexes text at v n m) (let e : 8 - n ≡ suc (8 - (n + 1)) = omega arith in e) h
 
 module _ {text : List ℕ} {at v n : ℕ} (h : Hexes text at v n (8 - n)) where
-  pub all_read : 8 ≤ n → HexRead text at (Number v (at + 8))
+  pub all_read : 8 ≤ n → HexRead text at (record { what = v; next = at + 8 })
   all_read l = done (subst (λ (k : ℕ). Hexes text at v k (8 - k)) (let e : n ≡ 8 = omega (arith, h.all) in e) h)
     where
-      done : Hexes text at v 8 0 → HexRead text at (Number v (at + 8))
+      done : Hexes text at v 8 0 → HexRead text at (record { what = v; next = at + 8 })
       done k =
           let b : v < 4294967296 = k.below in
           let x = k.got (at + 8) tt (record { ends = omega arith; reads = refl }) in
-          hex_read {v = v} (omega arith) x.0 (x.1 ∙ append-nil (hexes 8 v) ∙ hexes_eight v b) x.2
+          record { fits = omega arith; of = x.0; printed = x.1 ∙ append-nil (hexes 8 v) ∙ hexes_eight v b; got = x.2 }
 
   module _ (l : n < 8) where
     -- another digit fits
     pub room : v < 268435456
     room = omega (arith, h.below, pow-le-pow_right {n = 16} (omega arith) {i = n} {j = 7} (omega arith))
 
-    stuck : ((d : ℕ) → d < 16 → byte_at text (at + n) ≡ hex_digit_of d → ⊥) → HexRead text at (Astray (at + n))
+    pub stuck : NoDigit (byte_at text (at + n)) → Lost (times 8 hex_one) text at (at + n)
     stuck o =
-        hex_lost ((one_left h l).lost (at + n)
+        (one_left h l).lost (at + n)
         (seq_lost_first hex_one (λ _. times (8 - (n + 1)) hex_one) text (at + n) (at + n) (λ _. times_some (8 - (n + 1)) hex_one (0, omega arith))
-        (digit_lost text (at + n) h.within o)))
+        (digit_lost text (at + n) h.within o))
 
-    pub past_end : length text ≤ at + n → HexRead text at (Astray (at + n))
+    pub past_end : length text ≤ at + n → Lost (times 8 hex_one) text at (at + n)
     past_end k =
         let e = byte_past text (at + n) k in
-        stuck (digit_not (no_digit (byte_at text (at + n)) (λ o. omega arith) (λ o. omega arith)) refl)
+        stuck (no_digit (byte_at text (at + n)) (λ o. omega arith) (λ o. omega arith))
 
-    pub not_hex : {d : ℕ} → at + n < length text → DigitRead (get_or text (at + n) 0) d → d ≡ 16 → HexRead text at (Astray (at + n))
-    not_hex k r e = stuck λ d m f. digit_not r e d m (byte_there text (at + n) k ∙ f)
-
-    pub one_read : {d : ℕ} → at + n < length text → DigitRead (get_or text (at + n) 0) d → (d ≡ 16 → ⊥) → Hexes text at (v * 16 + d) (n + 1) (8 - (n + 1))
-    one_read {d} k r o =
+    pub one_read : {d : ℕ} → at + n < length text → DigitRead (byte_at text (at + n)) d → Hexes text at (v * 16 + d) (n + 1) (8 - (n + 1))
+    one_read {d} k r =
         let j = one_left h l in
         let m = 8 - (n + 1) in
-        let i = digit_is r o in
-        let g = digit_got text (at + n) d i.0 h.within (sym (byte_there text (at + n) k) ∙ i.1) in
+        let g = digit_got text (at + n) d r.small h.within r.byte_is in
         let e : at + (n + 1) ≡ at + n + 1 = omega arith in
         record {
           all = omega arith;
           within = omega arith;
-          below = rw (add-one, pow-suc) (omega (arith, h.below, i.0));
-          lost = λ p a. j.lost p (seq_lost_second hex_one (λ _. times m hex_one) text (at + n) (at + n + 1) p (d, i.0) hex_plain g (rw e at a));
+          below = rw (add-one, pow-suc) (omega (arith, h.below, r.small));
+          lost = λ p a. j.lost p (seq_lost_second hex_one (λ _. times m hex_one) text (at + n) (at + n + 1) p (d, r.small) hex_plain g (rw e at a));
           got = λ end y a.
-              let x = j.got end ((d, i.0), y) (seq_got hex_one (λ _. times m hex_one) text (at + n) (at + n + 1) end (d, i.0) y g (rw e at a)) in
-              (x.0, x.1 ∙ sym (append_assoc (hexes n v) (hex_digit_of d ∷ []) ((times m hex_one).print y)) ∙ ap (λ (w : List ℕ). w ++ (times m hex_one).print y) (sym (hexes_more n v d i.0)), x.2);
+              let x = j.got end ((d, r.small), y) (seq_got hex_one (λ _. times m hex_one) text (at + n) (at + n + 1) end (d, r.small) y g (rw e at a)) in
+              (x.0, x.1 ∙ sym (append_assoc (hexes n v) (hex_digit_of d ∷ []) ((times m hex_one).print y)) ∙ ap (λ (w : List ℕ). w ++ (times m hex_one).print y) (sym (hexes_more n v d r.small)), x.2);
         }

@@ -1,47 +1,54 @@
--- What the readers of a text's parts answer, as relations to the forms (crate `shapes`). Assumes nothing.
-use Rattle.std.specs.Prelude.{ℕ, ◌+◌, ◌≤◌, ◌<◌, ◌≡◌, List, [], ◌∷◌, ◌++◌, ℤ, length}
+-- What the readers of a text's parts answer, as relations to the forms (crate `shapes`); where they read none of a form, the text leaves it
+-- (`Lost`). Assumes nothing.
+use Rattle.std.specs.Prelude.{ℕ, ◌≤◌, ◌<◌, ◌≡◌, ◌≢◌, List, [], ◌∷◌, ◌++◌, ℤ, length, slice_index}
 use Rattle.lines.specs.Lines.{hex_digit_of, hex8}
 use Rattle.shapes.specs.Forms.{word}
-use Rattle.shapes.specs.Places.{Got, Lost}
+use Rattle.shapes.specs.Places.{Got}
 use Rattle.shapes.specs.Numbers.{number, offset, hex_one, times}
 use Rattle.expression.specs.Generation.{signed_byte_of}
 use Rattle.source.specs.Words.{word_of}
 use Rattle.source.specs.Trees.{signed, Ranged}
-use Rattle.words.specs.Rows.{Among}
-use Rattle.spell.specs.declared.Named.{Named}
-use Rattle.spell.specs.declared.Named.TheVariants.{Word, Nowhere}
-use Rattle.spell.specs.declared.Found.{Found}
-use Rattle.spell.specs.declared.Found.TheVariants.{Number, Astray}
+use Rattle.spell.specs.declared.Spelt.{Spelt}
 
--- all of a word stands at a place, or its first n bytes and not the next one
-pub data Common (w : List ℕ) (text : List ℕ) (at : ℕ) (n : ℕ) : Type 0 where
-  all_there : n ≡ length w → Got (word w) text at tt (at + n) → Common w text at n
-  parts_there : n < length w → Lost (word w) text at (at + n) → Common w text at n
+-- two texts begin with the same n bytes, and behind these one of them ends or they part
+pub record Alike (s t : List ℕ) (n : ℕ) : Type 0 where
+  pub within_first : n ≤ length s
+  pub within_second : n ≤ length t
+  pub same : (k : ℕ) → k < n → slice_index s k ≡ slice_index t k
+  pub parts : n < length s → n < length t → slice_index s n ≢ slice_index t n
 
--- a word of the rows from one up to another, or the place where the text leaves them
-pub data WordRead (from to : ℕ) (text : List ℕ) (at : ℕ) : Named → Type 0 where
-  word_read : {r end : ℕ} → from ≤ r → r < to → Got (word (word_of r)) text at tt end → WordRead from to text at (Word r end)
-  word_lost : {p : ℕ} → Lost (Among from to) text at p → WordRead from to text at (Nowhere p)
+-- a word of the rows from one up to another
+pub record WordRead (from to : ℕ) (text : List ℕ) (at : ℕ) (s : Spelt ℕ) : Type 0 where
+  pub low : from ≤ s.what
+  pub high : s.what < to
+  pub got : Got (word (word_of s.what)) text at tt s.next
 
 -- a number and the place behind the byte that follows it
-pub data NumberRead (least most stop : ℕ) (text : List ℕ) (at : ℕ) : Found → Type 0 where
-  number_read : {v end : ℕ} (low : least ≤ v) (high : v ≤ most) → Got (number least most stop) text at (v, (low, high)) end
-      → NumberRead least most stop text at (Number v end)
-  number_lost : {p : ℕ} → Lost (number least most stop) text at p → NumberRead least most stop text at (Astray p)
+pub record NumberRead (least most stop : ℕ) (text : List ℕ) (at : ℕ) (s : Spelt ℕ) : Type 0 where
+  pub low : least ≤ s.what
+  pub high : s.what ≤ most
+  pub got : Got (number least most stop) text at (s.what, (low, high)) s.next
 
 -- an offset, as the byte that a table has for it
-pub data OffsetRead (stop : ℕ) (text : List ℕ) (at : ℕ) : Found → Type 0 where
-  offset_read : {v end : ℕ} (k : ℤ) → Ranged k → v ≡ signed_byte_of k → (x : (offset stop).Of) → (offset stop).print x ≡ signed k ++ (stop ∷ [])
-      → Got (offset stop) text at x end → OffsetRead stop text at (Number v end)
-  offset_lost : {p : ℕ} → Lost (offset stop) text at p → OffsetRead stop text at (Astray p)
+pub record OffsetRead (stop : ℕ) (text : List ℕ) (at : ℕ) (s : Spelt ℕ) : Type 0 where
+  pub offset_is : ℤ
+  pub ranged : Ranged offset_is
+  pub byte_is : s.what ≡ signed_byte_of offset_is
+  pub of : (offset stop).Of
+  pub printed : (offset stop).print of ≡ signed offset_is ++ (stop ∷ [])
+  pub got : Got (offset stop) text at of s.next
 
--- a lower-case hex digit's value, 16 of a byte that is none
-pub data DigitRead (b : ℕ) : ℕ → Type 0 where
-  digit_read : {d : ℕ} → d < 16 → b ≡ hex_digit_of d → DigitRead b d
-  digit_none : ((d : ℕ) → d < 16 → b ≡ hex_digit_of d → ⊥) → DigitRead b 16
+-- a lower-case hex digit's value, and a byte that is none
+pub record DigitRead (b d : ℕ) : Type 0 where
+  pub small : d < 16
+  pub byte_is : b ≡ hex_digit_of d
+
+abbrev pub NoDigit : ℕ → Type 0
+NoDigit b = (d : ℕ) → d < 16 → b ≡ hex_digit_of d → ⊥
 
 -- the word of eight hex digits
-pub data HexRead (text : List ℕ) (at : ℕ) : Found → Type 0 where
-  hex_read : {v end : ℕ} → v ≤ 4294967295 → (x : (times 8 hex_one).Of) → (times 8 hex_one).print x ≡ hex8 v → Got (times 8 hex_one) text at x end
-      → HexRead text at (Number v end)
-  hex_lost : {p : ℕ} → Lost (times 8 hex_one) text at p → HexRead text at (Astray p)
+pub record HexRead (text : List ℕ) (at : ℕ) (s : Spelt ℕ) : Type 0 where
+  pub fits : s.what ≤ 4294967295
+  pub of : (times 8 hex_one).Of
+  pub printed : (times 8 hex_one).print of ≡ hex8 s.what
+  pub got : Got (times 8 hex_one) text at of s.next

@@ -2,175 +2,122 @@
 // behind it, or the place where the text leaves what may stand there. It assumes nothing.
 #![tactic(auto)]
 
-ghost use Rattle.std.specs.Prelude.{◌≡◌, ◌+◌, ◌≤◌, ◌<◌, length};
-ghost use Rattle.shapes.specs.Places.{byte_at};
-ghost use Rattle.source.specs.Words.{many_words, word_of};
-ghost use Rattle.words.specs.Rows.{Tabulated};
-ghost use Rattle.spell.specs.Answers.{Common, WordRead, NumberRead, OffsetRead, DigitRead, HexRead};
+ghost use Rattle.std.specs.Prelude.{◌≤◌, ◌<◌, MatchOption, MatchResult, length};
+ghost use Rattle.shapes.specs.Numbers.{number, offset, hex_one, times};
+ghost use Rattle.shapes.specs.Places.{Lost};
+ghost use Rattle.source.specs.Words.{many_words};
+ghost use Rattle.words.specs.Rows.{Among};
+ghost use Rattle.spell.specs.Answers.{Alike, WordRead, NumberRead, OffsetRead, NoDigit, DigitRead, HexRead};
 
-use words::{WORD_BYTES, WORDS_MOST};
-
-// The byte at a place, 256 behind the last one.
-pub fn byte_at(text: &[u8], at: usize) -> u16
-    ensures { result ≡ byte_at text.now at }
-{
-    if at < text.len() {
-        wire::byte_short(text[at])
-    } else {
-        256
-    }
-}
-
-// How many bytes of a row's word stand at a place.
-fn common(text: &[u8], at: usize, words: &[[u8; WORD_BYTES]; WORDS_MOST], row: usize) -> usize
-    requires { (at ≤ length text.now) × (row < many_words) × Tabulated words.now }
-    ensures { Common (word_of row) text.now at result }
-{
-    let many = words::length_of(words, row);
-    let mut n = 0;
-    while n < many {
-        if byte_at(text, at + n) != wire::byte_short(words[row][n]) {
-            return n;
-        }
-        n += 1;
-    }
-    n
-}
-
-// A word of the table by its row and the place behind it, or the place of the fault.
+// What was read, and the place behind it.
 #[derive(Clone, Copy)]
-pub enum Named {
-    Word(usize, usize),
-    Nowhere(usize),
+pub struct Spelt<T> {
+    pub what: T,
+    pub next: usize,
 }
 
-// The word that stands at a place, of the rows from one up to another. The fault is where the last of them parts from the text.
-pub fn word_at(
-    text: &[u8],
-    at: usize,
-    words: &[[u8; WORD_BYTES]; WORDS_MOST],
-    from: usize,
-    to: usize,
-) -> Named
-    requires { (at ≤ length text.now) × (from < to) × (to ≤ many_words) × Tabulated words.now }
-    ensures { WordRead from to text.now at result }
+// How many bytes two texts begin with alike.
+fn shared(a: &[u8], b: &[u8]) -> usize
+    ensures { Alike a.now b.now result }
 {
-    let b = byte_at(text, at);
+    a.iter().zip(b).take_while(|(x, y)| x == y).count()
+}
+
+// The row of the word that stands at a place, of the rows from one up to another. The fault is where the last of them parts from the text.
+pub fn word_at(text: &[u8], at: usize, from: usize, to: usize) -> Result<Spelt<usize>, usize>
+    requires { (at ≤ length text.now) × (from < to) × (to ≤ many_words) }
+    ensures { MatchResult result (WordRead from to text.now at) (Lost (Among from to) text.now at) }
+{
     let mut far = at;
-    let mut row = from;
-    while row < to {
-        if b == wire::byte_short(words[row][0]) {
-            let n = common(text, at, words, row);
-            if n == words::length_of(words, row) {
-                return Named::Word(row, at + n);
-            }
-            if far < at + n {
-                far = at + n;
-            }
+    for row in from..to {
+        let word = words::word(row);
+        let n = shared(&text[at..], word);
+        if n == word.len() {
+            return Ok(Spelt {
+                what: row,
+                next: at + n,
+            });
         }
-        row += 1;
+        far = far.max(at + n);
     }
-    Named::Nowhere(far)
-}
-
-// A number and the place behind the byte that follows it, or the place of the fault.
-#[derive(Clone, Copy)]
-pub enum Found {
-    Number(u32, usize),
-    Astray(usize),
+    Err(far)
 }
 
 // The decimal at a place, from `least` to `most`, without leading zeros, with the byte `stop` behind it.
-pub fn number_at(text: &[u8], at: usize, least: u8, most: u32, stop: u8) -> Found
+pub fn number_at(
+    text: &[u8],
+    at: usize,
+    least: u8,
+    most: u32,
+    stop: u8,
+) -> Result<Spelt<u32>, usize>
     requires { (at ≤ length text.now) × (least ≤ 1) × (9 ≤ most) × (stop < 48) }
-    ensures { NumberRead least most stop text.now at result }
+    ensures { MatchResult result (NumberRead least most stop text.now at) (Lost (number least most stop) text.now at) }
 {
-    if at >= text.len() {
-        return Found::Astray(at);
+    let Some(&first) = text.get(at) else {
+        return Err(at);
+    };
+    if first < b'0' + least || first > b'9' {
+        return Err(at);
     }
-    let b = text[at];
-    if b < 48 + least {
-        return Found::Astray(at);
+    let mut what = u32::from(first - b'0');
+    for i in at + 1..text.len() {
+        let b = text[i];
+        if b == stop {
+            return Ok(Spelt { what, next: i + 1 });
+        }
+        if !b.is_ascii_digit() || what == 0 {
+            return Err(i);
+        }
+        let more = 10 * u64::from(what) + u64::from(b - b'0');
+        if more > u64::from(most) {
+            return Err(i);
+        }
+        what = more as u32;
     }
-    if b > 57 {
-        return Found::Astray(at);
-    }
-    let mut v: u64 = (b - 48) as u64;
-    let mut i = at + 1;
-    while i < text.len() {
-        let c = text[i];
-        if c == stop {
-            return Found::Number(v as u32, i + 1);
-        }
-        if c < 48 {
-            return Found::Astray(i);
-        }
-        if c > 57 {
-            return Found::Astray(i);
-        }
-        if v == 0 {
-            return Found::Astray(i);
-        }
-        let w = 10 * v + (c - 48) as u64;
-        if w > most as u64 {
-            return Found::Astray(i);
-        }
-        v = w;
-        i += 1;
-    }
-    Found::Astray(i)
+    Err(text.len())
 }
 
 // The offset at a place, as a table has it in a byte, with the byte `stop` behind it.
-pub fn offset_at(text: &[u8], at: usize, stop: u8) -> Found
+pub fn offset_at(text: &[u8], at: usize, stop: u8) -> Result<Spelt<u32>, usize>
     requires { (at ≤ length text.now) × (stop < 45) }
-    ensures { OffsetRead stop text.now at result }
+    ensures { MatchResult result (OffsetRead stop text.now at) (Lost (offset stop) text.now at) }
 {
-    if byte_at(text, at) != 45 {
+    if text.get(at) != Some(&b'-') {
         return number_at(text, at, 0, 127, stop);
     }
-    match number_at(text, at + 1, 1, 128, stop) {
-        Found::Number(v, end) => Found::Number(256 - v, end),
-        Found::Astray(p) => Found::Astray(p),
-    }
+    let minus = number_at(text, at + 1, 1, 128, stop)?;
+    Ok(Spelt {
+        what: 256 - minus.what,
+        next: minus.next,
+    })
 }
 
-// A hex digit's value, 16 of any other byte.
-fn digit_of(c: u8) -> u32
-    ensures { DigitRead c result }
+// A lower-case hex digit's value.
+fn digit_of(b: u8) -> Option<u32>
+    ensures { MatchOption result (NoDigit b) (DigitRead b) }
 {
-    if c < 48 {
-        return 16;
+    match b {
+        b'0'..=b'9' => Some(u32::from(b - b'0')),
+        b'a'..=b'f' => Some(u32::from(b - b'a') + 10),
+        _ => None,
     }
-    if c < 58 {
-        return (c - 48) as u32;
-    }
-    if c < 97 {
-        return 16;
-    }
-    if c < 103 {
-        return (c - 87) as u32;
-    }
-    16
 }
 
 // The word that eight lower-case hex digits at a place give.
-pub fn hex_at(text: &[u8], at: usize) -> Found
+pub fn hex_at(text: &[u8], at: usize) -> Result<Spelt<u32>, usize>
     requires { at ≤ length text.now }
-    ensures { HexRead text.now at result }
+    ensures { MatchResult result (HexRead text.now at) (Lost (times 8 hex_one) text.now at) }
 {
-    let mut v: u32 = 0;
-    let mut n: usize = 0;
-    while n < 8 {
-        if at + n >= text.len() {
-            return Found::Astray(at + n);
-        }
-        let d = digit_of(text[at + n]);
-        if d == 16 {
-            return Found::Astray(at + n);
-        }
-        v = v * 16 + d;
-        n += 1;
+    let mut what = 0;
+    for n in 0..8 {
+        let Some(&b) = text.get(at + n) else {
+            return Err(at + n);
+        };
+        let Some(d) = digit_of(b) else {
+            return Err(at + n);
+        };
+        what = what * 16 + d;
     }
-    Found::Number(v, at + 8)
+    Ok(Spelt { what, next: at + 8 })
 }

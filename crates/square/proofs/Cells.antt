@@ -4,18 +4,22 @@ use mathlib.Core.Path.{◌≡◌, refl, sym, ap, ap₂, ◌∙◌, subst}
 use mathlib.Core.Bool.{Bool, true, false, cond}
 use Prim.Native.Nat.{ℕ, zero, suc, ◌-◌, ◌^◌, ◌<◌, max}
 use native.Mathlib.Omega.{arith}
-use lib.IntN.{ℤ, pos, negsuc, ◌+ℤ◌, ◌-ℤ◌}
+use lib.IntN.{ℤ, pos, negsuc, ◌+ℤ◌, ◌-ℤ◌, ℤ_discrete}
 use lib.Signed.{mag, lt_z, le_z}
+use mathlib.Core.Logic.{⊎_elim}
+use Rattle.std.specs.Int.{int_max}
+use Rattle.std.proofs.lemmas.Int.{int_max_is}
 use lib.Dec.{eqb, ltb, leb-zero}
 use borrow.Author.Tests.{ltb-true, ltb-false, le-ltb, ne_eqb}
 use mir.Syntax.{w64}
 use mir.Val.{SFits, to_z, of_z}
 use mir.Facts.{to_z-of_z}
 use Rattle.limits.specs.Limits.{rise_of_zero}
-use Rattle.basis.proofs.Parts.{mag_sum}
+use Rattle.basis.specs.Parts.{up, down}
+use Rattle.basis.proofs.Parts.{le_parts, eq_from_parts, mag_parts, mag_sum}
 use Rattle.basis.proofs.Tests.{true_false}
 use Rattle.walks.specs.Longest.{none, some, larger, plus, relax_b, max_z, below, or_more}
-use Rattle.walks.proofs.Best.{larger_none, plus_none}
+use Rattle.walks.proofs.Best.{max_both, max_is, larger_none, plus_none}
 use Rattle.square.specs.Square.{NO, best, Small, rise_best}
 use Rattle.square.proofs.Sizes.{small_mag}
 
@@ -51,6 +55,16 @@ sum_fits {l} {r} s t h k = let p = sum_small s t h k in record { sfits = omega a
 not_least : {z : ℤ} → mag z < 2 ^ 62 → z ≡ NO → ⊥
 not_least {z} p e = let q : mag z ≡ 9223372036854775807 = ap mag e in omega arith
 
+-- the larger of two by std and by the definition
+int_max_z : (a b : ℤ) → int_max a b ≡ max_z a b
+int_max_z a b = let p = max_both a b in eq_from_parts (int_max a b) (max_z a b) (⊎_elim (λ e. omega (arith, int_max_is a b, le_parts p.1, ap up e, ap down e)) (λ e. omega (arith, int_max_is a b, le_parts p.0, ap up e, ap down e)) (max_is a b))
+
+least_max : {z : ℤ} → mag z < 2 ^ 62 → int_max NO z ≡ z
+least_max {z} p = let q = mag_parts z (2 ^ 62) p in eq_from_parts (int_max NO z) z (omega (arith, int_max_is NO z, q.0, q.1))
+
+not_least_max : (o z : ℤ) → (o ≡ NO → ⊥) → mag z < 2 ^ 62 → int_max o z ≡ NO → ⊥
+not_least_max o z n p e = ⊎_elim (λ q. n (sym (int_max_z o z ∙ q) ∙ e)) (λ q. not_least p (sym (int_max_z o z ∙ q) ∙ e)) (max_is o z)
+
 module _ (o l r : ℤ) where
   pub no_left : l ≡ NO → best o ≡ relax_b (best o) (best l) (best r)
   no_left e = rw (e, best_no) (sym (larger_none (best o)))
@@ -62,18 +76,33 @@ module _ (o l r : ℤ) where
     best_sum : best (l +ℤ r) ≡ plus (best l) (best r)
     best_sum = best_some (l +ℤ r) (not_least (sum_small s t h k)) ∙ sym (ap₂ plus (best_some l h) (best_some r k))
 
-    pub no_old : o ≡ NO → best (l +ℤ r) ≡ relax_b (best o) (best l) (best r)
-    no_old e = rw (e, best_no) best_sum
+    -- NONE is below the sum
+    larger_sum : best (int_max o (l +ℤ r)) ≡ relax_b (best o) (best l) (best r)
+    larger_sum = go (ℤ_discrete o NO)
+      where
+        m : mag (l +ℤ r) < 2 ^ 62
+        m = sum_small s t h k
 
-    module _ (g : o ≡ NO → ⊥) where
-      larger_now : relax_b (best o) (best l) (best r) ≡ some (max_z o (l +ℤ r))
-      larger_now = ap₂ larger (best_some o g) (ap₂ plus (best_some l h) (best_some r k))
+        go : Dec (o ≡ NO) → best (int_max o (l +ℤ r)) ≡ relax_b (best o) (best l) (best r)
+        go (yes e) = rw (e, best_no, least_max m) best_sum
+        go (no n) = best_some (int_max o (l +ℤ r)) (not_least_max o (l +ℤ r) n m) ∙ sym (ap₂ larger (best_some o n) (ap₂ plus (best_some l h) (best_some r k)) ∙ ap some (sym (int_max_z o (l +ℤ r))))
 
-      pub above : lt_z o (l +ℤ r) ≡ true → best (l +ℤ r) ≡ relax_b (best o) (best l) (best r)
-      above e = best_some (l +ℤ r) (not_least (sum_small s t h k)) ∙ sym (larger_now ∙ ap (λ (c : Bool). some (cond c (l +ℤ r) o)) e)
+-- as the code computes it, where both are there
+pub relaxed_is : (o l r x : ℤ) → SFits w64 o → SFits w64 l → SFits w64 r → mag x < 2 ^ 63 → Small 61 (best l) → Small 61 (best r) → (of_z w64 l ≡ 9223372036854775808 → ⊥) → (of_z w64 r ≡ 9223372036854775808 → ⊥)
+    → x ≡ int_max (to_z w64 (of_z w64 o)) (to_z w64 (of_z w64 (to_z w64 (of_z w64 l) +ℤ to_z w64 (of_z w64 r)))) → best (to_z w64 (of_z w64 x)) ≡ relax_b (best o) (best l) (best r)
+relaxed_is o l r x fo fl fr fx s t h k e =
+    let sum = ap (λ (z : ℤ). to_z w64 (of_z w64 z)) (back_sum fl fr) ∙ to_z-of_z (sum_fits s t (not_no h) (not_no k)) in
+    ap best (to_z-of_z {w = w64} (record { sfits = fx }) ∙ e ∙ ap₂ int_max (to_z-of_z fo) sum) ∙ larger_sum o l r s t (not_no h) (not_no k)
 
-      pub not_above : lt_z o (l +ℤ r) ≡ false → best o ≡ relax_b (best o) (best l) (best r)
-      not_above e = best_some o g ∙ sym (larger_now ∙ ap (λ (c : Bool). some (cond c (l +ℤ r) o)) e)
+-- the test `z < 0`, where NONE is below
+pub below_is : (z : ℤ) → below (best z) ≡ lt_z z (pos 0)
+unfolding best
+below_is (pos n) = refl
+below_is (negsuc n) = negative (eqb n 9223372036854775807)
+  where
+    negative : (b : Bool) → below (cond b none (some (negsuc n))) ≡ true
+    negative true = refl
+    negative false = refl
 
 -- the test `z >= 0`
 pub test_below : (z : ℤ) → le_z (pos 0) z ≡ false → below (best z) ≡ true
@@ -91,18 +120,21 @@ test_up (pos n) e = le-ltb n 0 (omega arith)
 test_up (negsuc n) e = true_false e refl
 
 -- one more of a row, for the largest so far
-pub grow : (n : ℕ) (z : ℤ) → cond (lt_z (pos n) z) z (pos n) ≡ pos (or_more n (best z))
+grow_z : (n : ℕ) (z : ℤ) → max_z (pos n) z ≡ pos (or_more n (best z))
 unfolding best
-grow n (pos m) = larger_of (ltb n m) refl
+grow_z n (pos m) = larger_of (ltb n m) refl
   where
     larger_of : (b : Bool) → ltb n m ≡ b → cond b (pos m) (pos n) ≡ pos (max n m)
     larger_of true e = ap pos (omega (arith, ltb-true n m e))
     larger_of false e = ap pos (omega (arith, ltb-false n m e))
-grow n (negsuc m) = stays (eqb m 9223372036854775807)
+grow_z n (negsuc m) = stays (eqb m 9223372036854775807)
   where
     stays : (b : Bool) → pos n ≡ pos (or_more n (cond b none (some (negsuc m))))
     stays true = refl
     stays false = ap pos (omega arith)
+
+pub grow : (n : ℕ) (z : ℤ) → int_max (pos n) z ≡ pos (or_more n (best z))
+grow n z = int_max_z (pos n) z ∙ grow_z n z
 
 -- ---- a weight from 129 more than it
 

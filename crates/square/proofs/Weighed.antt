@@ -1,12 +1,14 @@
 -- What `weighed` announces of a square: it asks the cells below S only, and its look-aheads fit (document 01, "What the check announces",
 -- and refusal 7). Assumes nothing.
 use mathlib.Core.Path.{◌≡◌, refl, sym, ap, ◌∙◌, subst}
+use mathlib.Core.List.{List}
+use Rattle.std.specs.Prelude.{Result, Ok, Err}
 use mathlib.Core.Bool.{Bool, true, false, ◌&&◌, cond}
 use Prim.Native.Nat.{ℕ, ◌^◌, ◌≤◌, ◌<◌}
 use native.Mathlib.Omega.{arith}
 use borrow.Author.Tests.{lt-ltb, ltb-true}
 use lib.Dec.{ltb}
-use lib.ListN.{get_or, get_or-replicate}
+use lib.ListN.{get_or}
 use lib.IntN.{ℤ}
 use Rattle.limits.specs.Limits.{most_streams, most_ahead, most_look}
 use Rattle.basis.specs.Parts.{up}
@@ -20,10 +22,28 @@ use Rattle.walks.proofs.Schedule.{schedule_of}
 use Rattle.walks.proofs.Bound.{look_small}
 use Rattle.walks.proofs.Same.{loops_same, look_of_same, through_same, place_same}
 use Rattle.basis.specs.Firsts.{firsts}
-use Rattle.square.specs.Square.{Small, accepted_with, refused_at, weighed}
-use Rattle.square.specs.declared.Verdict.{Verdict}
+use Rattle.square.specs.Square.{Small, weighed}
 use Rattle.square.proofs.Sizes.{small_mag}
 use Rattle.basis.proofs.Firsts.{firsts_same, get_d_firsts}
+
+-- ---- accepted or refused
+
+module _ (A : ℕ → ℕ → Best) (S : ℕ) where
+  pub weighed_accepted : {look : List ℕ} → Ok look ≡ weighed A S → (loops_below_of (through A S) S ≡ true) × (look ≡ firsts (look_of (through A S) S) most_streams)
+  unfolding weighed
+  weighed_accepted {look} e = go (loops_below_of (through A S) S) e
+    where
+      go : (b : Bool) → Ok look ≡ cond {A = Result (List ℕ) ℕ} b (Ok (firsts (look_of (through A S) S) most_streams)) (Err (place_of A S)) → (b ≡ true) × (look ≡ firsts (look_of (through A S) S) most_streams)
+      go true q = (refl, cc)
+      go false q = absurd (cc)
+
+  pub weighed_refused : {place : ℕ} → Err place ≡ weighed A S → (loops_below_of (through A S) S ≡ false) × (place ≡ place_of A S)
+  unfolding weighed
+  weighed_refused {place} e = go (loops_below_of (through A S) S) e
+    where
+      go : (b : Bool) → Err place ≡ cond {A = Result (List ℕ) ℕ} b (Ok (firsts (look_of (through A S) S) most_streams)) (Err (place_of A S)) → (b ≡ false) × (place ≡ place_of A S)
+      go true q = absurd (cc)
+      go false q = (refl, cc)
 
 -- ---- look-aheads fit
 
@@ -74,14 +94,9 @@ module _ (S : ℕ) (A : ℕ → ℕ → Best) (few : S ≤ most_streams) (small 
   unfolding look_of
   look_of_fits neg v = pick_case (λ (n : ℕ). n ≤ most_look) (ltb v S) (look_to (through A S v) S) 0 (λ e. look_fits neg v (ltb-true v S e)) (λ e. omega arith)
 
-  -- what is announced, accepted or not
-  pub weighed_look_small : (v : ℕ) → v < most_streams → get_or (weighed A S).look v 0 ≤ most_look
-  unfolding weighed
-  weighed_look_small v h = go (loops_below_of (through A S) S) (λ e. look_of_fits e v)
-    where
-      go : (b : Bool) → (b ≡ true → look_of (through A S) S v ≤ most_look) → get_or (cond {A = Verdict} b (accepted_with (firsts (look_of (through A S) S) most_streams)) (refused_at (place_of A S))).look v 0 ≤ most_look
-      go true f = rw (get_d_firsts (look_of (through A S) S) most_streams v 0 h) (f refl)
-      go false f = rw (get_or-replicate {A = ℕ} most_streams v 0 0 h) (omega arith)
+  -- the look-aheads of an accepted square
+  pub weighed_look_small : {look : List ℕ} → Ok look ≡ weighed A S → (v : ℕ) → v < most_streams → get_or look v 0 ≤ most_look
+  weighed_look_small e v h = let f = weighed_accepted A S e in rw (f.1, get_d_firsts (look_of (through A S) S) most_streams v 0 h) (look_of_fits f.0 v)
 
 -- ---- by the relaxed square D, which is known cell by cell
 
@@ -95,11 +110,11 @@ module _ (S : ℕ) (A D : ℕ → ℕ → Best) (few : S ≤ most_streams) (rela
   pub relaxed_fits : ((i j : ℕ) → i < most_streams → j < most_streams → Small 7 (A i j)) → loops_below_of D S ≡ true → (v : ℕ) → v < S → look_to (D v) S < 65536
   relaxed_fits small e v h = let b = look_fits S A few small (test_same e) v h in omega (arith, look_same (D v) (through A S v) S (λ m p. below_S v m h p))
 
-  pub weighed_true : loops_below_of D S ≡ true → accepted_with (firsts (look_of D S) most_streams) ≡ weighed A S
+  pub weighed_true : loops_below_of D S ≡ true → Ok (firsts (look_of D S) most_streams) ≡ weighed A S
   unfolding weighed
-  weighed_true e = ap accepted_with (firsts_same (look_of D S) (look_of (through A S) S) most_streams (λ v h. look_of_same S D (through A S) below_S v)) ∙ sym (rw (test_same e))
+  weighed_true e = ap Ok (firsts_same (look_of D S) (look_of (through A S) S) most_streams (λ v h. look_of_same S D (through A S) below_S v)) ∙ sym (rw (test_same e))
 
-  pub weighed_false : loops_below_of D S ≡ false → refused_at (place_of A S) ≡ weighed A S
+  pub weighed_false : loops_below_of D S ≡ false → Err (place_of A S) ≡ weighed A S
   unfolding weighed
   weighed_false e = sym (rw (test_same e))
 

@@ -1,11 +1,10 @@
 -- The square of numbers as the code holds it, and what its functions answer, cell by cell (document 01, "How to write each place": the square).
 -- Assumes nothing.
-use Rattle.std.specs.Prelude.{true, false, cond, List, [], ℕ, zero, suc, ◌^◌, ◌<◌, eqb, get_or, replicate, ℤ, pos, negsuc, ◌-ℤ◌}
+use Rattle.std.specs.Prelude.{cond, List, [], ℕ, zero, suc, ◌^◌, ◌<◌, eqb, get_or, Result, Ok, Err, ℤ, pos, negsuc, ◌-ℤ◌}
 use Rattle.std.specs.Int.Signed.{mag}
 use Rattle.limits.specs.Limits.{most_streams, rise_of_zero}
 use Rattle.basis.specs.Firsts.{firsts}
 use Rattle.walks.specs.Longest.{Best, none, some, through, loops_below_of, look_of, place_of}
-use Rattle.square.specs.declared.Verdict.{Verdict}
 
 -- the code's NONE, the least number of its type
 abbrev pub NO : ℤ
@@ -18,7 +17,7 @@ best (negsuc n) = cond (eqb n 9223372036854775807) none (some (negsuc n))
 
 -- the entry j of a row
 abbrev pub at : List ℤ → ℕ → Best
-at l j = best (get_or l j NO)
+at l j = best (get_or l j (pos 0))
 
 -- the square's cell
 abbrev pub cell : List (List ℤ) → ℕ → ℕ → Best
@@ -38,12 +37,6 @@ unfoldable pub rise_best : ℕ → Best
 rise_best zero = none
 rise_best (suc n) = some (pos (suc n) -ℤ pos rise_of_zero)
 
-abbrev pub accepted_with : List ℕ → Verdict
-accepted_with looks = record { ok = true; place = 0; look = looks }
-
-abbrev pub refused_at : ℕ → Verdict
-refused_at p = record { ok = false; place = p; look = replicate most_streams 0 }
-
 -- what is announced of a square of S streams: accepted with the look-aheads, or refused with the place of refusal 7
-unfoldable pub weighed : (ℕ → ℕ → Best) → ℕ → Verdict
-weighed A S = cond (loops_below_of (through A S) S) (accepted_with (firsts (look_of (through A S) S) most_streams)) (refused_at (place_of A S))
+unfoldable pub weighed : (ℕ → ℕ → Best) → ℕ → Result (List ℕ) ℕ
+weighed A S = cond (loops_below_of (through A S) S) (Ok (firsts (look_of (through A S) S) most_streams)) (Err (place_of A S))

@@ -1,13 +1,14 @@
 -- The lent store (document 01, "A run"): its layout, and what the functions over it answer. `types`, `look` and `kept` hold a number for
 -- each stream, q is a position. Assumes nothing.
-use Rattle.std.specs.Prelude.{ℕ, ◌+◌, ◌-◌, ◌*◌, ◌/◌, ◌%◌, ◌≤◌, ◌<◌, ◌^◌, min, ◌≡◌, cond, List, ◌++◌, ltb, get_or, drop, replicate}
-use Rattle.basis.specs.Rows.{entry, put, Shaped}
+use Rattle.std.specs.Prelude.{ℕ, ◌+◌, ◌-◌, ◌%◌, ◌≤◌, ◌<◌, ◌^◌, min, ◌≡◌, cond, List, ◌++◌, ltb, get_or, drop, replicate}
 use Rattle.basis.specs.Firsts.{of}
 use Rattle.limits.specs.Limits.{most_streams}
 use Rattle.value.specs.declared.Value.{Value}
 use Rattle.value.specs.Values.{reading_of, image_of}
 use Rattle.run.specs.Layout.{Layout}
 use Rattle.run.specs.Words.{base, in_parts}
+use Rattle.store.specs.declared.Part.{Part}
+use Rattle.store.specs.declared.Frame.{Frame}
 
 -- a word of stream v, as a value of its type
 abbrev pub read_as : (types : List ℕ) (v w : ℕ) → Value
@@ -42,39 +43,12 @@ word_of kept st v q = (words_of (of kept)).read st v (slot_of kept v q)
 abbrev pub cleared_of : (words : ℕ) → List ℕ → List ℕ
 cleared_of words st = replicate words 0 ++ drop words st
 
--- The frame of a turn, rows of four numbers: the entries of a stream's row, and the row of the turn.
-abbrev pub lap_entry : ℕ
-lap_entry = 0
+-- what a turn's frame has of the stream v
+abbrev pub no_part : Part
+no_part = record { lap = 0; start = 0; kept = 0; kind = 0 }
 
-abbrev pub part_entry : ℕ
-part_entry = 1
-
-abbrev pub kept_entry : ℕ
-kept_entry = 2
-
-abbrev pub type_entry : ℕ
-type_entry = 3
-
-abbrev pub frame_entries : ℕ
-frame_entries = 4
-
-abbrev pub turn_row : ℕ
-turn_row = most_streams
-
-abbrev pub known_entry : ℕ
-known_entry = 0
-
-abbrev pub position_entry : ℕ
-position_entry = 1
-
-abbrev pub lent_entry : ℕ
-lent_entry = 2
-
-abbrev pub lent_high_entry : ℕ
-lent_high_entry = 3
-
-abbrev pub frame_rows : ℕ
-frame_rows = most_streams + 1
+abbrev pub part_of : Frame → ℕ → Part
+part_of frame v = get_or frame.parts v no_part
 
 -- the newest position that turn t has of v, where n rows are known: "that turn less [its] look-ahead", or the last one of the trace
 abbrev pub newest_of : (look : List ℕ) (n t v : ℕ) → ℕ
@@ -84,47 +58,37 @@ newest_of look n t v = min (t - of look v) (n - 1)
 abbrev pub lap_for : (q n : ℕ) → ℕ
 lap_for q n = q - q % n - n
 
--- The first rows of a frame of turn t, where n rows are known. Of each stream it has the lap before that of the newest position, and
+-- The parts that a frame of turn t has, where n rows are known. Of each stream it has the lap before that of the newest position, and
 -- where its part starts: "The store holds one part for each stream, in stream order, as long as its kept number".
-pub record Laid (types look kept : List ℕ) (streams n t : ℕ) (frame : List (List ℕ)) : Type 0 where
-  pub shape : Shaped frame_rows frame_entries frame
-  pub laps : (v : ℕ) → v < streams → of look v ≤ t → entry frame v lap_entry ≡ lap_for (newest_of look n t v) (of kept v)
-  pub parts : (v : ℕ) → v < streams → entry frame v part_entry ≡ base (of kept) v
-  pub keeps : (v : ℕ) → v < streams → entry frame v kept_entry ≡ of kept v
-  pub typed : (v : ℕ) → v < streams → entry frame v type_entry ≡ of types v
-  pub narrow : (v : ℕ) → v < streams → (entry frame v part_entry + entry frame v kept_entry < 2 ^ 32) × (entry frame v type_entry < 256)
+pub record Laid (types look kept : List ℕ) (streams n t : ℕ) (parts : List Part) : Type 0 where
+  pub laps : (v : ℕ) → v < streams → of look v ≤ t → (get_or parts v no_part).lap ≡ lap_for (newest_of look n t v) (of kept v)
+  pub starts : (v : ℕ) → v < streams → (get_or parts v no_part).start ≡ base (of kept) v
+  pub keeps : (v : ℕ) → v < streams → (get_or parts v no_part).kept ≡ of kept v
+  pub typed : (v : ℕ) → v < streams → (get_or parts v no_part).kind ≡ of types v
+  pub narrow : (v : ℕ) → v < streams → (get_or parts v no_part).start + (get_or parts v no_part).kept < 2 ^ 32
 
 -- a frame of turn t
-pub record Framed (types look kept : List ℕ) (streams n t : ℕ) (frame : List (List ℕ)) : Type 0 where
-  pub laid : Laid types look kept streams n t frame
-  pub known : entry frame turn_row known_entry ≡ n
-
--- the number of words lent, as the row of the turn has it: two numbers below 2 ^ 32
-abbrev pub lent_in : List (List ℕ) → ℕ
-lent_in frame = entry frame turn_row lent_entry + entry frame turn_row lent_high_entry * 2 ^ 32
-
-abbrev pub lent_with : ℕ → List (List ℕ) → List (List ℕ)
-lent_with words frame = put (put frame turn_row lent_entry (words % 2 ^ 32)) turn_row lent_high_entry (words / 2 ^ 32)
+pub record Framed (types look kept : List ℕ) (streams n t : ℕ) (frame : Frame) : Type 0 where
+  pub laid : Laid types look kept streams n t frame.parts
+  pub known : frame.known ≡ n
 
 -- the word for the position q of v by the frame's numbers: as far as q lies past the lap, less a whole lap where that is more
-unfoldable pub place_in : (frame : List (List ℕ)) (v q : ℕ) → ℕ
+unfoldable pub place_in : (frame : Frame) (v q : ℕ) → ℕ
 place_in frame v q =
-    let far = q - entry frame v lap_entry in
-    let n = entry frame v kept_entry in
-    cond (ltb far n) far (far - n) + entry frame v part_entry
+    let far = q - (part_of frame v).lap in
+    let n = (part_of frame v).kept in
+    cond (ltb far n) far (far - n) + (part_of frame v).start
 
 -- the position q of v lies less than two laps past the lap, so that the frame has a word of v's part for it
-pub record Placeable (frame : List (List ℕ)) (v q : ℕ) : Type 0 where
+pub record Placeable (frame : Frame) (v q : ℕ) : Type 0 where
   pub stream : v < most_streams
-  pub shape : Shaped frame_rows frame_entries frame
-  pub near : (entry frame v lap_entry ≤ q) × (q < entry frame v lap_entry + entry frame v kept_entry + entry frame v kept_entry)
-  pub small : entry frame v part_entry + entry frame v kept_entry < 2 ^ 32
+  pub near : ((part_of frame v).lap ≤ q) × (q < (part_of frame v).lap + (part_of frame v).kept + (part_of frame v).kept)
+  pub small : (part_of frame v).start + (part_of frame v).kept < 2 ^ 32
 
 -- and a store of n words has that word
-pub record Findable (frame : List (List ℕ)) (n v q : ℕ) : Type 0 where
+pub record Findable (frame : Frame) (n v q : ℕ) : Type 0 where
   pub placeable : Placeable frame v q
-  pub within : entry frame v part_entry + entry frame v kept_entry ≤ n
-  pub typed : entry frame v type_entry < 256
+  pub within : (part_of frame v).start + (part_of frame v).kept ≤ n
 
 -- q is a position of v that the store holds in turn t, where n rows are known
 pub record Within (look kept : List ℕ) (n t v q : ℕ) : Type 0 where
@@ -133,9 +97,8 @@ pub record Within (look kept : List ℕ) (n t v q : ℕ) : Type 0 where
   pub stays : t < q + of look v + of kept v
 
 -- what laying a frame needs
-pub record CanLay (kept : List ℕ) (streams n : ℕ) (frame : List (List ℕ)) : Type 0 where
+pub record CanLay (kept : List ℕ) (streams n : ℕ) : Type 0 where
   pub few : streams ≤ most_streams
   pub some : (v : ℕ) → v < streams → 0 < of kept v
   pub row : 0 < n
   pub rows : n < 2 ^ 32
-  pub shape : Shaped frame_rows frame_entries frame

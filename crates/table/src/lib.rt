@@ -2,7 +2,7 @@
 // and 9). `kinds` is the constant table by kind.
 #![tactic(auto)]
 
-ghost use Rattle.std.specs.Prelude.{◌≡◌, List, ℕ, ◌+◌, ◌-◌, ◌≤◌, ◌<◌, length, get_or, take, replicate};
+ghost use Rattle.std.specs.Prelude.{◌≡◌, List, ℕ, ◌+◌, ◌-◌, ◌≤◌, ◌<◌, get_or, take, replicate};
 ghost use Rattle.limits.specs.Faults.{Tested};
 ghost use Rattle.limits.specs.Limits.{most_streams};
 ghost use Rattle.node.specs.Kinds.{rule_of, many_kinds, Tabulated};

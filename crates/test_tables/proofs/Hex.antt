@@ -1,15 +1,18 @@
 -- Laws of a line of hex digits. Assumes nothing.
-use Rattle.std.proofs.Common.{ℕ, zero, suc, ◌≡◌, ◌<◌, false, List, arith}
+use Rattle.std.proofs.Common.{ℕ, zero, suc, ◌≡◌, ◌<◌, inl, inr, Option, Some, None, List, arith}
+use Rattle.std.specs.Option.{SomeIff}
+use Rattle.std.specs.Char.{digit_value}
 use Rattle.std.proofs.lemmas.Bool.Decides.{nat_tests}
-use Rattle.test_tables.specs.Hex.{whole_of, pair_of}
+use Rattle.basis.proofs.Tests.{lt_or_ge}
+use Rattle.test_tables.specs.Hex.{digit_for, pair_of, bytes_said}
 
-module _ (s : List ℕ) where
-  no_byte : (i : ℕ) → 255 < pair_of s i → whole_of s (suc i) ≡ false
-  unfolding whole_of
-  no_byte i h = grind (arith, nat_tests)
+pub digit_is : (b : ℕ) (o : Option ℕ) → SomeIff o (digit_value b < 16) (digit_value b) → o ≡ digit_for b
+unfolding digit_for
+digit_is b None h = grind (arith, nat_tests)
+digit_is b (Some d) h = grind (arith, nat_tests)
 
-  -- a pair that is no byte stays one
-  pub not_a_byte : (i n : ℕ) → 255 < pair_of s i → i < n → false ≡ whole_of s n
-  unfolding whole_of
-  not_a_byte i zero h l = absurd (omega arith)
-  not_a_byte i (suc n) h l = grind (arith, nat_tests, not_a_byte i n h)
+-- a pair that is no byte stays one
+pub not_a_byte : (s : List ℕ) (i n : ℕ) → pair_of s i ≡ None → i < n → bytes_said s n ≡ None
+unfolding bytes_said
+not_a_byte s i zero h l = absurd (omega arith)
+not_a_byte s i (suc n) h l = elim (lt_or_ge i n) [ inl k ↦ rw (not_a_byte s i n h k) | inr k ↦ let e : i ≡ n = omega arith in grind (arith, e, h) ]

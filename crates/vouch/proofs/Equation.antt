@@ -1,5 +1,6 @@
 -- One equation: what the scan noted of it are the extremes of its references, so that noting the row notes its edges.
 -- Assumes nothing.
+use Rattle.std.proofs.Common.{Result, Ok, Err, is_err}
 use mathlib.Core.Path.{◌≡◌, refl, sym, ap, ◌∙◌, subst}
 use mathlib.Core.Bool.{Bool, true, false}
 use mathlib.Core.List.{List, ◌++◌}
@@ -10,6 +11,10 @@ use lib.Dec.{eqb}
 use lib.ListN.{length, get_or}
 use Rattle.basis.specs.Rows.{column}
 use Rattle.basis.proofs.Rows.{column_at, column_long}
+use Rattle.limits.specs.declared.Fault.{Fault}
+use Rattle.limits.specs.Faults.{Tested}
+use Rattle.limits.proofs.Faults.{number_some}
+use Rattle.basis.proofs.Tests.{true_false}
 use Rattle.limits.specs.Limits.{most_table, most_streams, most_levels}
 use Rattle.basis.specs.Edges.{Edge, Among}
 use Rattle.expression.specs.Syntax.{Expr}
@@ -34,6 +39,15 @@ fine_parsed : (b : Bool) (f : Unit {0} → Parsed) (why place : ℕ) {n : ℕ} {
 fine_parsed true f why place q = (refl, q)
 fine_parsed false f why place q = bad_good q
 
+-- what a test's answer tells of the fault that it looks for
+pub fault_found : (r : Result (Unit {0}) Fault) {n : ℕ} → true ≡ is_err r → Tested r n → n ≡ 0 → ⊥
+fault_found (Ok x) e h z = true_false (sym e) refl
+fault_found (Err f) e h z = number_some f (sym h ∙ z)
+
+pub none_found : (r : Result (Unit {0}) Fault) {n : ℕ} → false ≡ is_err r → Tested r n → n ≡ 0
+none_found (Ok x) e h = h
+none_found (Err f) e h = true_false refl (sym e)
+
 module _ (ts s : List ℕ) (y at : ℕ) where
   -- an equation that is read: its record has no fault, and its expression follows
   equation_read : {e : Expr} {n : ℕ} → equation_at ts s y at ≡ good e n → (eqb (equation_fault_of s at y) 0 ≡ true) × (parse most_levels ts s (get_or ts y 0) (at + 2) ≡ good e n)
@@ -41,18 +55,18 @@ module _ (ts s : List ℕ) (y at : ℕ) where
   equation_read q = fine_parsed (eqb (equation_fault_of s at y) 0) (λ _. parse most_levels ts s (get_or ts y 0) (at + 2)) (equation_fault_of s at y) at q
 
   -- none is read where its record has a fault
-  pub faulty_equation : {f : ℕ} {look : ℕ → ℕ} → f ≡ equation_fault_of s at y → (f ≡ 0 → ⊥) → (e : Expr) (n : ℕ) → equation_at ts s y at ≡ good e n → Lacks look (references y e)
-  faulty_equation p z e n q = absurd (z (p ∙ eqb-true _ _ (equation_read q).0))
+  pub faulty_equation : {look : ℕ → ℕ} → (equation_fault_of s at y ≡ 0 → ⊥) → (e : Expr) (n : ℕ) → equation_at ts s y at ≡ good e n → Lacks look (references y e)
+  faulty_equation z e n q = absurd (z (eqb-true _ _ (equation_read q).0))
 
   -- the references of an equation lead from its stream to streams of the table
   equation_refers : {e : Expr} {n : ℕ} → equation_at ts s y at ≡ good e n → Refers y (length ts) (references y e)
   equation_refers q = (good_right ts s most_levels (get_or ts y 0) (at + 2) (equation_read q).1).refers y
 
   -- its record has no fault, and its expression was scanned
-  module _ {f : ℕ} (p : f ≡ equation_fault_of s at y) (z : f ≡ 0) {w : ℕ} (ew : w ≡ get_or ts y 0) {seen seen₁ : List (List ℕ)} {r : ℕ} (short : length s ≤ most_table) (x : Scanning (parse most_levels ts s w (at + 2)) s ts seen seen₁ r) where
+  module _ (z : equation_fault_of s at y ≡ 0) {w : ℕ} (ew : w ≡ get_or ts y 0) {seen seen₁ : List (List ℕ)} {r : ℕ} (short : length s ≤ most_table) (x : Scanning (parse most_levels ts s w (at + 2)) s ts seen seen₁ r) where
     parsed_as : equation_at ts s y at ≡ parse most_levels ts s w (at + 2)
     unfolding equation_at
-    parsed_as = rw (← p, eq-eqb _ _ z, ew)
+    parsed_as = rw (eq-eqb _ _ z, ew)
 
     pub no_equation : {look : ℕ → ℕ} → places ≤ r → (e : Expr) (n : ℕ) → equation_at ts s y at ≡ good e n → Lacks look (references y e)
     no_equation h e n q = bad_good (sym (scan_refused short x h).parsed ∙ sym parsed_as ∙ q)

@@ -1,7 +1,7 @@
 -- The verdict on the whole table, behind its heading.
 -- Assumes nothing.
 use mathlib.Core.Path.{◌≡◌, refl, sym, ap, ◌∙◌, subst}
-use mathlib.Core.Bool.{Bool, true, false}
+use Rattle.std.proofs.Common.{Err}
 use mathlib.Core.List.{List, ◌++◌}
 use Prim.Native.Nat.{ℕ, ◌<◌}
 use native.Mathlib.Omega.{arith}
@@ -11,6 +11,7 @@ use lib.Seq.{get_or-take}
 use Rattle.basis.specs.Firsts.{of}
 use Rattle.basis.specs.Edges.{Among}
 use Rattle.walks.specs.Walks.{Within, Right}
+use Rattle.limits.specs.declared.Refusal.{Refusal}
 use Rattle.table.specs.declared.Heading.{Heading}
 use Rattle.table.specs.Table.{Equation, Table, decoded, refused, Equations, equated, unfit, edges_from, decode, streams, edges}
 use Rattle.table.specs.Records.{heads}
@@ -18,20 +19,15 @@ use Rattle.table.specs.Answers.{padded, Headings, starts_of}
 use Rattle.table.proofs.Decoding.{Opens, decode_unheaded, opened_inputs, opened_streams, behind_heading, decode_unfit, decode_more, decode_equated}
 use Rattle.table.proofs.Sound.{sound}
 use Rattle.certificate.specs.Certificate.{Ordered}
-use Rattle.basis.proofs.Tests.{true_false}
-use Rattle.vouch.specs.declared.Found.{Found}
-use Rattle.vouch.specs.Vouching.{Bounded, Certified, Vouched, Vouches, Verdict, Summed}
-use Rattle.vouch.specs.Steps.{Judges, Judgement}
-
-pub verdict_no : (s look kept : List ℕ) (r : Vouched) {b : Bool} → b ≡ false → ((t : Table) → decode s ≡ decoded t → Certified t look kept → ⊥) → Verdict b s look kept r
-verdict_no s look kept r e f = subst (λ (b : Bool). Verdict b s look kept r) (sym e) f
+use Rattle.vouch.specs.Vouching.{Bounded, Certified, Vouches}
+use Rattle.vouch.specs.Steps.{Judges}
 
 not_refused : {X : Type 0} (s : List ℕ) {t : Table} {why place : ℕ} → decode s ≡ refused why place → decode s ≡ decoded t → X
 not_refused s p q = let z : ◌≡◌ {A = ℕ} 0 1 = cc in absurd (omega arith)
 
 -- a refused heading
-pub no_heading_lem : (s : List ℕ) {look kept : List ℕ} {h : Heading} {lt lr : List ℕ} → Headings (get_or s 2 0) (heads s) h lt lr → (h.number ≡ 0 → ⊥) → (t : Table) → decode s ≡ decoded t → Certified t look kept → ⊥
-no_heading_lem s p z t e x = not_refused s (decode_unheaded s p z) e
+pub no_heading : (s : List ℕ) {look kept : List ℕ} {r : Refusal} {lt lr : List ℕ} → Headings (get_or s 2 0) (heads s) (Err r) lt lr → (t : Table) → decode s ≡ decoded t → Certified t look kept → ⊥
+no_heading s p t e x = not_refused s (decode_unheaded s p) e
 
 -- the edges of a decoded table lie between its streams
 pub edges_within : (s : List ℕ) {t : Table} → decode s ≡ decoded t → Within (Among (edges t)) (streams t)
@@ -64,7 +60,7 @@ module _ {s : List ℕ} {h : Heading} {lt lr : List ℕ} (o : Opens s h lt lr) w
       f (subst (Bounded look kept) (ap (λ (t : Table). streams t) (sym b.2) ∙ sym (opened_streams o)) x.bounded)
 
   -- equations whose numbers these are not
-  not_judged : {look kept : List ℕ} →
+  pub not_judged : {look kept : List ℕ} →
       ((qs : List Equation) → behind_heading o ≡ equated qs (length s) → Within (Among (edges_from h.inputs qs)) h.streams → Right (Among (edges_from h.inputs qs)) h.streams (of look) (of kept) → ⊥) →
       (t : Table) → decode s ≡ decoded t → Certified t look kept → ⊥
   unfolding edges
@@ -82,7 +78,7 @@ module _ {s : List ℕ} {h : Heading} {lt lr : List ℕ} (o : Opens s h lt lr) w
     unfolding edges
     in_order = (rw (opened_inputs o, opened_streams o) at j.ordered) (edges_within s decodes)
 
-    judged : Vouches s look kept (record { inputs = h.inputs; streams = h.streams; types = lt; roles = lr; starts = starts; order = order })
+    pub judged : Vouches s look kept (record { inputs = h.inputs; streams = h.streams; types = lt; roles = lr; starts = starts; order = order })
     judged = record {
       table = headed j.equations;
       decodes = decodes;
@@ -94,16 +90,6 @@ module _ {s : List ℕ} {h : Heading} {lt lr : List ℕ} (o : Opens s h lt lr) w
       roles_are = o.roles_are;
       starts_are = j.starts_are ∙ ap (λ (i : ℕ). padded (replicate i 0 ++ starts_of j.equations)) (opened_inputs o);
     }
-
-  -- numbers in bounds: the equations decide
-  pub verdict_judged : {look kept : List ℕ} (starts order : List ℕ) → Bounded look kept h.streams → (b : Bool) → Judgement b (behind_heading o) (length s) h.inputs h.streams (of look) (of kept) starts order →
-      Verdict b s look kept (record { inputs = h.inputs; streams = h.streams; types = lt; roles = lr; starts = starts; order = order })
-  verdict_judged starts order x true j = judged x j
-  verdict_judged starts order x false j = not_judged j
-
--- numbers that are not vouched for have no sums to answer for
-pub unsummed : {r : Found} {look kept roles : List ℕ} → r.ok ≡ false → Summed r look kept roles
-unsummed e = record { words_sum = λ q. true_false q e; triggers_sum = λ q. true_false q e; closing_most = λ q. true_false q e }
 
 -- the types of the first n streams
 pub first_types : (types : List ℕ) (n : ℕ) → ((v : ℕ) → get_or (take n types) v 0 < 3) → (v : ℕ) → v < n → get_or types v 0 < 3

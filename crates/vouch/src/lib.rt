@@ -97,9 +97,17 @@ pub fn vouch(
     if limits::STORE_MOST < sums.words {
         return None;
     }
-    let place = heading.place;
     if !judge(
-        table, kinds, types, inputs, streams, place, look, kept, starts, order,
+        table,
+        kinds,
+        types,
+        inputs,
+        streams,
+        heading.place,
+        look,
+        kept,
+        starts,
+        order,
     ) {
         return None;
     }

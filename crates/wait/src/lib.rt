@@ -5,10 +5,7 @@ use std::rt::Clock;
 use std::thread;
 use std::time::Duration;
 
-// A thousandth of a second, in nanoseconds.
-const MOMENT: u64 = 1000000;
-
-// Waits a moment.
+// Waits a moment, a thousandth of a second.
 pub fn pause(clock: &impl Clock) {
-    thread::sleep(clock, Duration::from_nanos(MOMENT));
+    thread::sleep(clock, Duration::from_millis(1));
 }

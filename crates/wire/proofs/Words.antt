@@ -1,12 +1,15 @@
 -- Laws of a word and its bytes: reading back what was put, and words of a list that is put together or shortened in front.
 -- Assumes nothing.
-use mathlib.Core.Path.{◌≡◌, refl, sym, ap, ◌∙◌}
+use mathlib.Core.Path.{◌≡◌, refl, sym}
 use mathlib.Core.List.{List, [], ◌∷◌, ◌++◌}
-use Prim.Native.Nat.{ℕ, zero, suc, ◌+◌, ◌/◌, ◌%◌, ◌^◌, ◌<◌, ◌≤◌}
+use Prim.Native.Nat.{ℕ, zero, suc, ◌+◌, ◌-◌, ◌/◌, ◌%◌, ◌^◌, ◌<◌, ◌≤◌}
 use native.Mathlib.Nat.{div-div-eq-div-mul, div-add-mod'}
 use native.Mathlib.Omega.{arith}
-use lib.ListN.{length, get_or, drop, get_or-append}
-use lib.Seq.{get_or-append-add, get_or-drop}
+use borrow.Rule.Slice.PartMut.{put_mid}
+use lib.ListN.{length, get_or, take, drop, get_or-append, length-append, length-take, length-drop}
+use lib.Seq.{get_or-append-add}
+use Rattle.std.specs.Int.{w32, to_le_bytes}
+use Rattle.std.proofs.lemmas.Slice.{take-put_mid, drop-put_mid}
 use Rattle.basis.specs.Written.{Wrote}
 use Rattle.wire.specs.Bytes.{AllBytes, le4, word_of, word_at}
 
@@ -29,10 +32,19 @@ pub word_length : (w : ℕ) → length (le4 w) ≡ 4
 unfolding le4
 word_length w = refl
 
--- what writes its bytes writes the word
-pub wrote_word : {a b : List ℕ} {p q : ℕ} (w : ℕ) → Wrote a p (w % 256 ∷ w / 256 % 256 ∷ w / 65536 % 256 ∷ w / 16777216 % 256 ∷ []) b q → Wrote a p (le4 w) b q
+-- what is copied into the part of a slice from a place to an end is written there
+pub wrote_copied : (l : List ℕ) (place end : ℕ) (text : List ℕ) → end ≡ place + length text → end ≤ length l → Wrote l place text (put_mid place (end - place) l text) end
+wrote_copied l place end text e h = record {
+  ends = e;
+  front = take-put_mid place (end - place) l text end e (omega arith);
+  rest = drop-put_mid place (end - place) l text end (omega arith) (omega arith) (omega arith);
+  size = omega (arith, length-append (take place l) (text ++ drop (end - place) (drop place l)), length-append text (drop (end - place) (drop place l)), length-take place l, length-drop (end - place) (drop place l), length-drop place l);
+}
+
+-- std's four bytes of a word are its bytes
+pub bytes_of_word : (w : ℕ) → to_le_bytes w32 w ≡ le4 w
 unfolding le4
-wrote_word w h = h
+bytes_of_word w = refl
 
 -- each of the four is below 256
 pub word_bytes : (w : ℕ) → AllBytes (le4 w)
@@ -75,14 +87,3 @@ module _ (a b : List ℕ) where
   unfolding word_at
   word_past j k e =
       rw (byte_past j k e, byte_past (j + 1) (k + 1) (omega arith), byte_past (j + 2) (k + 2) (omega arith), byte_past (j + 3) (k + 3) (omega arith))
-
--- bytes and words of what is left behind the first i bytes
-pub first_behind : (l : List ℕ) (i : ℕ) → get_or (drop i l) 0 0 ≡ get_or l i 0
-first_behind l i = get_or-drop i l 0 0 ∙ ap (λ (n : ℕ). get_or l n 0) (omega arith)
-
-byte_behind : (l : List ℕ) (i k j : ℕ) → get_or (drop i l) (k + j) 0 ≡ get_or l (i + k + j) 0
-byte_behind l i k j = get_or-drop i l (k + j) 0 ∙ ap (λ (n : ℕ). get_or l n 0) (omega arith)
-
-pub word_behind : (l : List ℕ) (i k : ℕ) → word_at l (i + k) ≡ word_at (drop i l) k
-unfolding word_at
-word_behind l i k = rw (get_or-drop i l k 0, byte_behind l i k 1, byte_behind l i k 2, byte_behind l i k 3)

@@ -1,8 +1,8 @@
-// Bytes of a lent slice ("Numbers are little-endian", document 01, "The table"), and numbers made wider. A writer takes the place where it
-// starts and answers the place behind. It assumes nothing.
+// Bytes of a lent slice ("Numbers are little-endian", document 01, "The table"). A writer takes the place where it starts and answers the
+// place behind. It assumes nothing.
 #![tactic(auto)]
 
-ghost use Rattle.std.specs.Prelude.{◌≡◌, [], ◌∷◌, ◌+◌, ◌≤◌, ◌<◌, ◌^◌, length};
+ghost use Rattle.std.specs.Prelude.{◌≡◌, [], ◌∷◌, ◌+◌, ◌≤◌, ◌<◌, length};
 ghost use Rattle.basis.specs.Written.{Wrote};
 ghost use Rattle.wire.specs.Bytes.{le4, word_of, word_at};
 
@@ -14,15 +14,26 @@ pub fn put_byte(out: &mut [u8], at: usize, b: u8) -> usize
     at + 1
 }
 
+// The bytes given, one after the other.
+pub fn put_bytes(out: &mut [u8], at: usize, bytes: &[u8]) -> usize
+    requires { at + length bytes.now ≤ length out.old }
+    ensures { Wrote out.old at bytes.now out.new result }
+{
+    let end = at + bytes.len();
+    out[at..end].copy_from_slice(bytes);
+    end
+}
+
 // Four bytes, the lowest first.
 pub fn put_word(out: &mut [u8], at: usize, w: u32) -> usize
     requires { at + 4 ≤ length out.old }
     ensures { Wrote out.old at (le4 w) out.new result }
 {
-    let b = put_byte(out, at, (w % 256) as u8);
-    let c = put_byte(out, b, (w / 256 % 256) as u8);
-    let d = put_byte(out, c, (w / 65536 % 256) as u8);
-    put_byte(out, d, (w / 16777216 % 256) as u8)
+    let [a, b, c, d] = w.to_le_bytes();
+    let one = put_byte(out, at, a);
+    let two = put_byte(out, one, b);
+    let three = put_byte(out, two, c);
+    put_byte(out, three, d)
 }
 
 // The number in the four bytes from `at` on.
@@ -37,48 +48,5 @@ pub fn word_at(bytes: &[u8], at: usize) -> u32
 pub fn word_of(a: u8, b: u8, c: u8, d: u8) -> u32
     ensures { result ≡ word_of a b c d }
 {
-    a as u32 + 256 * (b as u32) + 65536 * (c as u32) + 16777216 * (d as u32)
-}
-
-// A number of 8, 16 or 32 bits made wider: the same number, with the bound that its type gave.
-pub fn byte_short(x: u8) -> u16
-    ensures { (result ≡ x) × (result < 256) }
-{
-    x as u16
-}
-
-pub fn byte_word(x: u8) -> u32
-    ensures { (result ≡ x) × (result < 256) }
-{
-    x as u32
-}
-
-pub fn byte_size(x: u8) -> usize
-    ensures { (result ≡ x) × (result < 256) }
-{
-    x as usize
-}
-
-pub fn short_word(x: u16) -> u32
-    ensures { (result ≡ x) × (result < 65536) }
-{
-    x as u32
-}
-
-pub fn short_size(x: u16) -> usize
-    ensures { (result ≡ x) × (result < 65536) }
-{
-    x as usize
-}
-
-pub fn short_wide(x: u16) -> u64
-    ensures { (result ≡ x) × (result < 65536) }
-{
-    x as u64
-}
-
-pub fn word_wide(x: u32) -> u64
-    ensures { (result ≡ x) × (result < 2 ^ 32) }
-{
-    x as u64
+    u32::from_le_bytes([a, b, c, d])
 }

@@ -1,1 +1,1 @@
-pub mod Lengths
+pub mod Words

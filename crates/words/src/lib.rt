@@ -1,14 +1,8 @@
-// The words of a table's text in one constant table, which reader and writer go by (request C-12). It assumes nothing.
+// The words of a table's text, each once, which reader and writer go by (request C-12). It assumes nothing.
 #![tactic(auto)]
 
-ghost use Rattle.std.specs.Prelude.{◌≡◌, ◌<◌, length};
+ghost use Rattle.std.specs.Prelude.{◌≡◌, ◌<◌};
 ghost use Rattle.source.specs.Words.{many_words, word_of};
-ghost use Rattle.words.specs.Rows.{Tabulated};
-
-// A word's row: its bytes, blanks behind them, and in the last entry how many they are.
-pub const WORD_BYTES: usize = 16;
-
-const LENGTH: usize = 15;
 
 pub const WORDS_MOST: usize = 33;
 
@@ -34,53 +28,46 @@ pub const OUT_ROW: usize = 31;
 
 pub const EQ_ROW: usize = 32;
 
-const WORDS: [[u8; WORD_BYTES]; WORDS_MOST] = [
-    *b"flag(          \x05",
-    *b"word(          \x05",
-    *b"level(         \x06",
-    *b"now(           \x04",
-    *b"at(            \x03",
-    *b"not(           \x04",
-    *b"and(           \x04",
-    *b"or(            \x03",
-    *b"if(            \x03",
-    *b"add.word(      \x09",
-    *b"sub.word(      \x09",
-    *b"ahead(         \x06",
-    *b"less.word(     \x0a",
-    *b"equal.word(    \x0b",
-    *b"equal.flag(    \x0b",
-    *b"equal.level(   \x0c",
-    *b"add.level(     \x0a",
-    *b"sub.level(     \x0a",
-    *b"mul(           \x04",
-    *b"div(           \x04",
-    *b"less.level(    \x0b",
-    *b"flag\n          \x05",
-    *b"word\n          \x05",
-    *b"level\n         \x06",
-    *b"flag           \x05",
-    *b"word           \x05",
-    *b"level          \x06",
-    *b"plain\n         \x06",
-    *b"trigger\n       \x08",
-    *b"table          \x06",
-    *b"in             \x03",
-    *b"out            \x04",
-    *b"eq             \x03",
+static WORDS: [&[u8]; WORDS_MOST] = [
+    b"flag(",
+    b"word(",
+    b"level(",
+    b"now(",
+    b"at(",
+    b"not(",
+    b"and(",
+    b"or(",
+    b"if(",
+    b"add.word(",
+    b"sub.word(",
+    b"ahead(",
+    b"less.word(",
+    b"equal.word(",
+    b"equal.flag(",
+    b"equal.level(",
+    b"add.level(",
+    b"sub.level(",
+    b"mul(",
+    b"div(",
+    b"less.level(",
+    b"flag\n",
+    b"word\n",
+    b"level\n",
+    b"flag ",
+    b"word ",
+    b"level ",
+    b"plain\n",
+    b"trigger\n",
+    b"table ",
+    b"in ",
+    b"out ",
+    b"eq ",
 ];
 
-// The constant table, for a call to lend downwards: the compiler would copy a constant array at each look-up.
-pub fn word_table() -> [[u8; WORD_BYTES]; WORDS_MOST]
-    ensures { Tabulated result }
+// The word of a row.
+pub fn word(row: usize) -> &'static [u8]
+    requires { row < many_words }
+    ensures { result.now ≡ word_of row }
 {
-    WORDS
-}
-
-// How many bytes the word of a row has.
-pub fn length_of(words: &[[u8; WORD_BYTES]; WORDS_MOST], row: usize) -> usize
-    requires { (row < many_words) × Tabulated words.now }
-    ensures { (result ≡ length (word_of row)) × (result < 16) }
-{
-    wire::byte_size(words[row][LENGTH])
+    WORDS[row]
 }

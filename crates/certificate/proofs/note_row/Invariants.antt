@@ -1,7 +1,6 @@
 -- `note_row`: up to v, the tally holds the row's edges to streams below v beside those noted before, and what was seen of them is forgotten.
 -- Assumes nothing.
 use mathlib.Core.List.{List}
-use Prim.Native.Nat.{◌-◌, ◌≤◌}
 use Rattle.basis.specs.Firsts.{of}
 use Rattle.basis.specs.Edges.{Edge, Among}
 use Rattle.certificate.specs.Forgotten.{rises, falls, Forgotten}
@@ -9,7 +8,7 @@ use Rattle.certificate.specs.Tally.{Row, Tally, Upto}
 use Rattle.certificate.proofs.note_row.Given as goal
 
 abbrev pub invariant-loop-v : goal.invariant-loop-v
-invariant-loop-v l = (l.v ≤ l.s) × ((rs es : List Edge) → Row rs l.y (rises l.initial.seen) (falls l.initial.seen) l.s → Tally (Among es) (of l.look) l.initial.tight l.initial.most → Tally (Upto rs es l.v) (of l.look) l.tight l.most) × Forgotten l.v l.initial.seen l.seen
-
-abbrev pub decreases-loop-v : goal.decreases-loop-v
-decreases-loop-v l = l.s - l.v
+invariant-loop-v l = record {
+  noted : (rs es : List Edge) → Row rs l.y (rises l.initial.seen) (falls l.initial.seen) l.s → Tally (Among es) (of l.look) l.initial.tight l.initial.most → Tally (Upto rs es l.v) (of l.look) l.tight l.most;
+  forgotten : Forgotten l.v l.initial.seen l.seen;
+}

@@ -1,29 +1,26 @@
--- `ready`: no stream of the rest below y is ready.
+-- `ready`: the first stream that passes the test, or none.
 -- Assumes nothing.
-use native.Mathlib.Omega.{arith}
-use native.Mathlib.Nat.{not-suc-le-zero}
-use borrow.Author.Rules.{rules}
-use borrow.Author.Count.{below_more}
+use Rattle.std.proofs.Common.{◌≡◌, ℕ, ◌≤◌, ◌<◌, Option, Some, None, List, get_or, MatchOption, rules, arith}
+use Rattle.std.proofs.lemmas.Iterator.{first_from_Range}
+use Rattle.std.specs.Int.Bits.{bit_and}
+use borrow.Author.Tests.{tests}
 use Rattle.certificate.specs.Tally.{bit}
+use Rattle.certificate.specs.Line.{Ready}
 use Rattle.certificate.proofs.ready.Goals as goal
-use Rattle.certificate.proofs.ready.Goals.{then-rest-y-eq1+else-tight-y-eq0, else-rest-y-eq1}
 
-pub loop-y-init : goal.loop-y-init
-loop-y-init c = (search rules, λ i h. absurd (not-suc-le-zero h))
+module _ (tight : List ℕ) (rest : ℕ) where
+  abbrev Yes : ℕ → Type 0
+  Yes y = (bit rest y ≡ 1) × (bit_and (get_or tight y 0) rest ≡ 0)
 
-pub returns-then-tight-y-eq0 : goal.returns-then-tight-y-eq0
-unfolding bit
-returns-then-tight-y-eq0 c = record { within = search rules; found = λ h. (c.if-rest-y-eq1.true, c.if-tight-y-eq0.true); none = λ h. absurd (omega arith) }
+  abbrev No : ℕ → Type 0
+  No y = bit rest y ≡ 1 → bit_and (get_or tight y 0) rest ≡ 0 → ⊥
 
-pub loop-y-preserved : goal.loop-y-preserved
-unfolding bit
-loop-y-preserved c = (
-  search rules,
-  below_more _ _ c.loop-y.invariant.1 (elim c.if-rest-y-eq1.branch [
-    | then-rest-y-eq1+else-tight-y-eq0 w ↦ λ p q. w.if-tight-y-eq0.false q
-    | else-rest-y-eq1 w ↦ λ p q. w.if-rest-y-eq1.false p
-  ]),
-)
+  ready_by : (s : ℕ) (r : Option ℕ) → MatchOption r ((y : ℕ) → 0 ≤ y → y < s → No y) (λ y. (0 ≤ y) × (y < s) × Yes y × ((k : ℕ) → 0 ≤ k → k < y → No k)) → Ready tight rest s r
+  ready_by s (Some r) h = (h.1, h.2.0, h.2.1)
+  ready_by s None h = λ y. h y (omega arith)
 
 pub returns : goal.returns
-returns c = record { within = search rules; found = λ h. absurd (omega arith); none = λ h i l. c.loop-y.invariant.1 i (omega arith) }
+unfolding bit
+returns c = ready_by c.args.tight.now c.args.rest c.args.s c.find.result
+    (first_from_Range _ _ _ c.find.result (Yes c.args.tight.now c.args.rest) (No c.args.tight.now c.args.rest) c.find.ensures.ran
+    (λ y q k. search (rules, tests)) (λ y q k. search (rules, tests)))

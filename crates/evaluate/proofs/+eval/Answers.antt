@@ -1,11 +1,12 @@
 -- `evaluate::eval` meets its contract, by the levels left: one operand after the other as the grammar reads them, each with operands of its
 -- own or without. Assumes nothing.
-use mathlib.Core.Path.{◌≡◌, sym, ◌∙◌}
+use mathlib.Core.Path.{◌≡◌, sym, ap, ◌∙◌}
 use mathlib.Core.Bool.{Bool, true, false}
 use mathlib.Core.List.{List}
 use native.Mathlib.Omega.{arith}
 use Prim.Native.Nat.{ℕ, ◌+◌, ◌-◌}
 use lib.ListN.{length, get_or}
+use Rattle.store.specs.declared.Frame.{Frame}
 use Rattle.store.proofs.Places.{all_lent}
 use Rattle.node.specs.Kinds.{rule_of}
 use Rattle.node.specs.Node.{is_leaf_of, standing}
@@ -16,23 +17,20 @@ use Rattle.evaluate.proofs.+eval.Goals as goal
 use Rattle.evaluate.proofs.+eval.Goals.{then-is_leaf, else-is_leaf, then-is_leaf-2, else-is_leaf-2, then-is_leaf-3, else-is_leaf-3, then-operands-ne1+else-operands-eq3, else-operands-ne1}
 
 -- an operand without operands of its own, and one with: the part of the store that is handed on is all of it
-leaf_stands : {l : ℕ} {frame : List (List ℕ)} {st held s : List ℕ} {place : ℕ} {b : Bool} → held ≡ st → Readable l frame (length st) s place → b ≡ is_leaf_of (standing s place) → b ≡ true → LeafStands frame (length held) s place
+leaf_stands : {l : ℕ} {frame : Frame} {st held s : List ℕ} {place : ℕ} {b : Bool} → held ≡ st → Readable l frame (length st) s place → b ≡ is_leaf_of (standing s place) → b ≡ true → LeafStands frame (length held) s place
 leaf_stands {l} e x is h = record { levels = l; readable = readable_on e x; leaf = sym is ∙ h }
 
-operator_stands : {l : ℕ} {frame : List (List ℕ)} {st held s : List ℕ} {place : ℕ} {b : Bool} → held ≡ st → Readable l frame (length st) s place → b ≡ is_leaf_of (standing s place) → b ≡ false → OperatorStands l frame (length held) s place
+operator_stands : {l : ℕ} {frame : Frame} {st held s : List ℕ} {place : ℕ} {b : Bool} → held ≡ st → Readable l frame (length st) s place → b ≡ is_leaf_of (standing s place) → b ≡ false → OperatorStands l frame (length held) s place
 operator_stands e x is h = record { readable = readable_on e x; operator = sym is ∙ h }
 
-pub lent-requires : goal.lent-requires
-lent-requires t c = c.requires.1.readable.turn.framed.laid.shape
-
 pub slice_bounds-held-end : goal.slice_bounds-held-end
-slice_bounds-held-end t c = omega (arith, c.lent.ensures, c.requires.1.readable.turn.lent)
+slice_bounds-held-end t c = omega (arith, c.requires.1.readable.turn.lent, ap length (all_lent c.args.store.now c.requires.1.readable.turn.lent))
 
 pub bounds-bytes-at : goal.bounds-bytes-at
 bounds-bytes-at t c = (standing_at c.requires.1.readable).inside
 
 pub operands_of-operands-requires : goal.operands_of-operands-requires
-operands_of-operands-requires t c = (rw c.byte_size.ensures.0 (low_kind c.requires.1.readable), c.requires.0)
+operands_of-operands-requires t c = (rw c.from.ensures (low_kind c.requires.1.readable), c.requires.0)
 
 pub overflow_sub-left : goal.overflow_sub-left
 overflow_sub-left t c = omega (arith, (standing_at c.requires.1.readable).level)
@@ -53,20 +51,20 @@ is_leaf-requires t c =
 
 pub leaf-one-requires : goal.leaf-one-requires
 leaf-one-requires t c =
-    let held = all_lent c.args.store.now (c.lent.ensures ∙ c.requires.1.readable.turn.lent) in
+    let held = all_lent c.args.store.now c.requires.1.readable.turn.lent in
     let here = first_readable c.args.store.now c.requires.1.readable c.requires.1.operator in
     leaf_stands held here c.is_leaf.ensures c.if-is_leaf.true
 
 pub eval-one-requires : goal.eval-one-requires
 eval-one-requires t c =
-    let held = all_lent c.args.store.now (c.lent.ensures ∙ c.requires.1.readable.turn.lent) in
+    let held = all_lent c.args.store.now c.requires.1.readable.turn.lent in
     let here = first_readable c.args.store.now c.requires.1.readable c.requires.1.operator in
     (omega (arith, (standing_at c.requires.1.readable).level, c.decreases), (c.requires.0, operator_stands held here c.is_leaf.ensures c.if-is_leaf.false))
 
 pub is_leaf-requires-then-operands-ne1 : goal.is_leaf-requires-then-operands-ne1
 is_leaf-requires-then-operands-ne1 t c =
-    let held = all_lent c.args.store.now (c.lent.ensures ∙ c.requires.1.readable.turn.lent) in
-    let operands : c.operands_of-operands.result ≡ (rule_of (get_or c.args.bytes.now c.args.at 0)).operands = rw c.byte_size.ensures.0 at c.operands_of-operands.ensures in
+    let held = all_lent c.args.store.now c.requires.1.readable.turn.lent in
+    let operands : c.operands_of-operands.result ≡ (rule_of (get_or c.args.bytes.now c.args.at 0)).operands = rw c.from.ensures at c.operands_of-operands.ensures in
     let first : Evaluates (c.args.levels - 1) c.args.frame.now c.args.store.now c.args.bytes.now (c.args.at + 1) c.if-is_leaf.one = elim c.if-is_leaf.branch [
       | then-is_leaf y ↦ evaluates_on (c.args.levels - 1) c.args.frame.now c.args.store.now c.args.bytes.now (c.args.at + 1) held y.one-is (y.leaf-one.ensures (c.args.levels - 1))
       | else-is_leaf y ↦ evaluates_on (c.args.levels - 1) c.args.frame.now c.args.store.now c.args.bytes.now (c.args.at + 1) held y.one-is y.eval-one.ensures
@@ -77,8 +75,8 @@ is_leaf-requires-then-operands-ne1 t c =
 
 pub leaf-two-requires : goal.leaf-two-requires
 leaf-two-requires t c =
-    let held = all_lent c.args.store.now (c.lent.ensures ∙ c.requires.1.readable.turn.lent) in
-    let operands : c.operands_of-operands.result ≡ (rule_of (get_or c.args.bytes.now c.args.at 0)).operands = rw c.byte_size.ensures.0 at c.operands_of-operands.ensures in
+    let held = all_lent c.args.store.now c.requires.1.readable.turn.lent in
+    let operands : c.operands_of-operands.result ≡ (rule_of (get_or c.args.bytes.now c.args.at 0)).operands = rw c.from.ensures at c.operands_of-operands.ensures in
     let first : Evaluates (c.args.levels - 1) c.args.frame.now c.args.store.now c.args.bytes.now (c.args.at + 1) c.if-is_leaf.one = elim c.if-is_leaf.branch [
       | then-is_leaf y ↦ evaluates_on (c.args.levels - 1) c.args.frame.now c.args.store.now c.args.bytes.now (c.args.at + 1) held y.one-is (y.leaf-one.ensures (c.args.levels - 1))
       | else-is_leaf y ↦ evaluates_on (c.args.levels - 1) c.args.frame.now c.args.store.now c.args.bytes.now (c.args.at + 1) held y.one-is y.eval-one.ensures
@@ -89,8 +87,8 @@ leaf-two-requires t c =
 
 pub eval-two-requires : goal.eval-two-requires
 eval-two-requires t c =
-    let held = all_lent c.args.store.now (c.lent.ensures ∙ c.requires.1.readable.turn.lent) in
-    let operands : c.operands_of-operands.result ≡ (rule_of (get_or c.args.bytes.now c.args.at 0)).operands = rw c.byte_size.ensures.0 at c.operands_of-operands.ensures in
+    let held = all_lent c.args.store.now c.requires.1.readable.turn.lent in
+    let operands : c.operands_of-operands.result ≡ (rule_of (get_or c.args.bytes.now c.args.at 0)).operands = rw c.from.ensures at c.operands_of-operands.ensures in
     let first : Evaluates (c.args.levels - 1) c.args.frame.now c.args.store.now c.args.bytes.now (c.args.at + 1) c.if-is_leaf.one = elim c.if-is_leaf.branch [
       | then-is_leaf y ↦ evaluates_on (c.args.levels - 1) c.args.frame.now c.args.store.now c.args.bytes.now (c.args.at + 1) held y.one-is (y.leaf-one.ensures (c.args.levels - 1))
       | else-is_leaf y ↦ evaluates_on (c.args.levels - 1) c.args.frame.now c.args.store.now c.args.bytes.now (c.args.at + 1) held y.one-is y.eval-one.ensures
@@ -101,8 +99,8 @@ eval-two-requires t c =
 
 pub is_leaf-requires-then-operands-eq3 : goal.is_leaf-requires-then-operands-eq3
 is_leaf-requires-then-operands-eq3 t c =
-    let held = all_lent c.args.store.now (c.lent.ensures ∙ c.requires.1.readable.turn.lent) in
-    let operands : c.operands_of-operands.result ≡ (rule_of (get_or c.args.bytes.now c.args.at 0)).operands = rw c.byte_size.ensures.0 at c.operands_of-operands.ensures in
+    let held = all_lent c.args.store.now c.requires.1.readable.turn.lent in
+    let operands : c.operands_of-operands.result ≡ (rule_of (get_or c.args.bytes.now c.args.at 0)).operands = rw c.from.ensures at c.operands_of-operands.ensures in
     let first : Evaluates (c.args.levels - 1) c.args.frame.now c.args.store.now c.args.bytes.now (c.args.at + 1) c.if-is_leaf.one = elim c.if-is_leaf.branch [
       | then-is_leaf y ↦ evaluates_on (c.args.levels - 1) c.args.frame.now c.args.store.now c.args.bytes.now (c.args.at + 1) held y.one-is (y.leaf-one.ensures (c.args.levels - 1))
       | else-is_leaf y ↦ evaluates_on (c.args.levels - 1) c.args.frame.now c.args.store.now c.args.bytes.now (c.args.at + 1) held y.one-is y.eval-one.ensures
@@ -118,8 +116,8 @@ is_leaf-requires-then-operands-eq3 t c =
 
 pub leaf-three-requires : goal.leaf-three-requires
 leaf-three-requires t c =
-    let held = all_lent c.args.store.now (c.lent.ensures ∙ c.requires.1.readable.turn.lent) in
-    let operands : c.operands_of-operands.result ≡ (rule_of (get_or c.args.bytes.now c.args.at 0)).operands = rw c.byte_size.ensures.0 at c.operands_of-operands.ensures in
+    let held = all_lent c.args.store.now c.requires.1.readable.turn.lent in
+    let operands : c.operands_of-operands.result ≡ (rule_of (get_or c.args.bytes.now c.args.at 0)).operands = rw c.from.ensures at c.operands_of-operands.ensures in
     let first : Evaluates (c.args.levels - 1) c.args.frame.now c.args.store.now c.args.bytes.now (c.args.at + 1) c.if-is_leaf.one = elim c.if-is_leaf.branch [
       | then-is_leaf y ↦ evaluates_on (c.args.levels - 1) c.args.frame.now c.args.store.now c.args.bytes.now (c.args.at + 1) held y.one-is (y.leaf-one.ensures (c.args.levels - 1))
       | else-is_leaf y ↦ evaluates_on (c.args.levels - 1) c.args.frame.now c.args.store.now c.args.bytes.now (c.args.at + 1) held y.one-is y.eval-one.ensures
@@ -135,8 +133,8 @@ leaf-three-requires t c =
 
 pub eval-three-requires : goal.eval-three-requires
 eval-three-requires t c =
-    let held = all_lent c.args.store.now (c.lent.ensures ∙ c.requires.1.readable.turn.lent) in
-    let operands : c.operands_of-operands.result ≡ (rule_of (get_or c.args.bytes.now c.args.at 0)).operands = rw c.byte_size.ensures.0 at c.operands_of-operands.ensures in
+    let held = all_lent c.args.store.now c.requires.1.readable.turn.lent in
+    let operands : c.operands_of-operands.result ≡ (rule_of (get_or c.args.bytes.now c.args.at 0)).operands = rw c.from.ensures at c.operands_of-operands.ensures in
     let first : Evaluates (c.args.levels - 1) c.args.frame.now c.args.store.now c.args.bytes.now (c.args.at + 1) c.if-is_leaf.one = elim c.if-is_leaf.branch [
       | then-is_leaf y ↦ evaluates_on (c.args.levels - 1) c.args.frame.now c.args.store.now c.args.bytes.now (c.args.at + 1) held y.one-is (y.leaf-one.ensures (c.args.levels - 1))
       | else-is_leaf y ↦ evaluates_on (c.args.levels - 1) c.args.frame.now c.args.store.now c.args.bytes.now (c.args.at + 1) held y.one-is y.eval-one.ensures
@@ -152,8 +150,8 @@ eval-three-requires t c =
 
 pub returns-then-operands-eq3 : goal.returns-then-operands-eq3
 returns-then-operands-eq3 t c =
-    let held = all_lent c.args.store.now (c.lent.ensures ∙ c.requires.1.readable.turn.lent) in
-    let operands : c.operands_of-operands.result ≡ (rule_of (get_or c.args.bytes.now c.args.at 0)).operands = rw c.byte_size.ensures.0 at c.operands_of-operands.ensures in
+    let held = all_lent c.args.store.now c.requires.1.readable.turn.lent in
+    let operands : c.operands_of-operands.result ≡ (rule_of (get_or c.args.bytes.now c.args.at 0)).operands = rw c.from.ensures at c.operands_of-operands.ensures in
     let first : Evaluates (c.args.levels - 1) c.args.frame.now c.args.store.now c.args.bytes.now (c.args.at + 1) c.if-is_leaf.one = elim c.if-is_leaf.branch [
       | then-is_leaf y ↦ evaluates_on (c.args.levels - 1) c.args.frame.now c.args.store.now c.args.bytes.now (c.args.at + 1) held y.one-is (y.leaf-one.ensures (c.args.levels - 1))
       | else-is_leaf y ↦ evaluates_on (c.args.levels - 1) c.args.frame.now c.args.store.now c.args.bytes.now (c.args.at + 1) held y.one-is y.eval-one.ensures
@@ -168,17 +166,17 @@ returns-then-operands-eq3 t c =
       | then-is_leaf-3 y ↦ evaluates_on (c.args.levels - 1) c.args.frame.now c.args.store.now c.args.bytes.now c.if-is_leaf-2.two.next held y.three-is (y.leaf-three.ensures (c.args.levels - 1))
       | else-is_leaf-3 y ↦ evaluates_on (c.args.levels - 1) c.args.frame.now c.args.store.now c.args.bytes.now c.if-is_leaf-2.two.next held y.three-is y.eval-three.ensures
     ] in
-    λ x. c.valued.ensures ∙ three_give c.args.store.now x c.requires.1.operator first many second three third c.choose.ensures
+    λ x. three_give c.args.store.now x c.requires.1.operator first many second three third c.choose.ensures
 
 pub returns : goal.returns
 returns t c =
-    let held = all_lent c.args.store.now (c.lent.ensures ∙ c.requires.1.readable.turn.lent) in
-    let operands : c.operands_of-operands.result ≡ (rule_of (get_or c.args.bytes.now c.args.at 0)).operands = rw c.byte_size.ensures.0 at c.operands_of-operands.ensures in
+    let held = all_lent c.args.store.now c.requires.1.readable.turn.lent in
+    let operands : c.operands_of-operands.result ≡ (rule_of (get_or c.args.bytes.now c.args.at 0)).operands = rw c.from.ensures at c.operands_of-operands.ensures in
     let first : Evaluates (c.args.levels - 1) c.args.frame.now c.args.store.now c.args.bytes.now (c.args.at + 1) c.if-is_leaf.one = elim c.if-is_leaf.branch [
       | then-is_leaf y ↦ evaluates_on (c.args.levels - 1) c.args.frame.now c.args.store.now c.args.bytes.now (c.args.at + 1) held y.one-is (y.leaf-one.ensures (c.args.levels - 1))
       | else-is_leaf y ↦ evaluates_on (c.args.levels - 1) c.args.frame.now c.args.store.now c.args.bytes.now (c.args.at + 1) held y.one-is y.eval-one.ensures
     ] in
-    λ x. c.valued-2.ensures ∙ elim c.if-operands-ne1.branch [
+    λ x. elim c.if-operands-ne1.branch [
       | then-operands-ne1+else-operands-eq3 w ↦
           (let second : Evaluates (c.args.levels - 1) c.args.frame.now c.args.store.now c.args.bytes.now c.if-is_leaf.one.next w.if-is_leaf-2.two = elim w.if-is_leaf-2.branch [
             | then-is_leaf-2 y ↦ evaluates_on (c.args.levels - 1) c.args.frame.now c.args.store.now c.args.bytes.now c.if-is_leaf.one.next held y.two-is (y.leaf-two.ensures (c.args.levels - 1))

@@ -1,15 +1,21 @@
-use Rattle.std.proofs.Common.{◌∙◌}
-use Rattle.glasspuddle.proofs.Ending.{resting_first, resting_more}
+use Rattle.std.proofs.Common.{true, false, refl, sym, length-take-le}
+use Rattle.std.proofs.lemmas.Result.{err_from_is_err_and}
+use Rattle.glasspuddle.proofs.Ending.{resting_first, resting_more, rested}
 use Rattle.glasspuddle.proofs.give_rest.Goals as goal
 
-pub write_text-fine-requires : goal.write_text-fine-requires
-write_text-fine-requires g c = (c.end-ended.ensures.prints c.args.store.now c.requires.0.0).fits
+pub slice_bounds-put-end : goal.slice_bounds-put-end
+slice_bounds-put-end g c = (c.end-ended.ensures.prints c.args.store.now c.requires.0.0).fits
 
-pub loop-fine-init : goal.loop-fine-init
-loop-fine-init g c = (resting_first _ _ _ _ _ _ _ _ c.end-ended.ensures c.write_text-fine.ensures.written, c.write_text-fine.ensures.quiet)
+pub slice_bounds-put-end-2 : goal.slice_bounds-put-end-2
+slice_bounds-put-end-2 g c = sym (length-take-le _ _ (c.end-ended.ensures.prints c.args.store.now c.requires.0.0).fits)
 
-pub loop-fine-preserved : goal.loop-fine-preserved
-loop-fine-preserved g c = (
-  resting_more c.loop-fine.invariant.0 _ _ _ _ _ c.loop-fine-test.true c.finish-more.ensures c.write_text-fine-in-loop-fine.ensures.written,
-  λ e. c.write_text-fine-in-loop-fine.ensures.quiet e ∙ c.loop-fine.invariant.1 c.loop-fine-test.true,
-)
+pub loop-latest-init : goal.loop-latest-init
+loop-latest-init g c = resting_first true _ _ _ _ _ _ _ c.end-ended.ensures c.in_ok-put.ensures
+
+pub loop-latest-preserved : goal.loop-latest-preserved
+loop-latest-preserved g c = resting_more c.loop-latest.invariant true _ _ _ _ refl c.finish-more.ensures c.in_ok-put-2.ensures
+
+pub returns-in_err-put-2 : goal.returns-in_err-put-2
+returns-in_err-put-2 g c =
+    let p = err_from_is_err_and c.from_residual-in_err-put-2.result c.from_residual-in_err-put-2.ensures.1 in
+    rw p.1 (rested (resting_more c.loop-latest.invariant false _ _ _ _ refl c.finish-more.ensures c.in_err-put-2.ensures) (λ e. cc))

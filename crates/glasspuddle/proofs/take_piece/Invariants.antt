@@ -9,7 +9,7 @@ invariant-loop-used g l =
     (text : List ℕ)
     × Moved l.fn.state l.initial.table l.initial.store l.initial.part l.piece l.latest l.table l.store l.part l.used text
     × Appends (g.O.Write.contents l.initial.ends.output) (g.O.Write.contents l.ends.output) text
-    × (l.ends.input ≡ l.initial.ends.input) × (l.ends.messages ≡ l.initial.ends.messages)
+    × (l.ends.input ≡ l.initial.ends.input)
 
 abbrev pub decreases-loop-used : goal.decreases-loop-used
 decreases-loop-used g l = length l.piece - l.used

@@ -1,12 +1,8 @@
--- `level::image_of` meets its contract.
+-- `level::image_of` meets its contract: there is one NaN, and this is its image.
 -- Assumes nothing.
-use mathlib.Core.Path.{sym, ap, ◌∙◌}
-use lib.Ieee.{binary32, to_bits}
-use Rattle.level.proofs.Bits.{same_is_no_nan, differs_is_nan, nan_image}
+use Rattle.std.proofs.Common.{sym, ◌∙◌}
+use Rattle.level.proofs.Bits.{image_of_nan}
 use Rattle.level.proofs.image_of.Goals as goal
 
-pub float_to_bits-result : goal.float_to_bits-result
-float_to_bits-result c = same_is_no_nan _ c.if-x.false
-
-pub returns-then-x : goal.returns-then-x
-returns-then-x c = sym (ap (to_bits binary32) (differs_is_nan _ c.if-x.true) ∙ nan_image)
+pub returns-then-is_nan : goal.returns-then-is_nan
+returns-then-is_nan c = sym (image_of_nan _ (sym c.is_nan.ensures.value ∙ c.if-is_nan.true))

@@ -3,17 +3,17 @@ use native.Mathlib.Omega.{arith}
 use Rattle.spell.proofs.Hex.{low_digit, high_digit, no_digit}
 use Rattle.spell.proofs.digit_of.Goals as goal
 
-pub returns-then-c-lt48 : goal.returns-then-c-lt48
-returns-then-c-lt48 c = no_digit _ (λ o. omega arith) (λ o. omega arith)
+pub returns-in-48-to-57 : goal.returns-in-48-to-57
+returns-in-48-to-57 c = low_digit _ _ (omega (arith, c.from.ensures)) (omega (arith, c.from.ensures))
 
-pub returns-then-c-lt58 : goal.returns-then-c-lt58
-returns-then-c-lt58 c = low_digit _ (omega arith) (omega arith)
+pub returns-in-97-to-102 : goal.returns-in-97-to-102
+returns-in-97-to-102 c = high_digit _ _ (omega (arith, c.from-in-97-to-102.ensures)) (omega (arith, c.from-in-97-to-102.ensures)) (omega (arith, c.from-in-97-to-102.ensures))
 
-pub returns-then-c-lt97 : goal.returns-then-c-lt97
-returns-then-c-lt97 c = no_digit _ (λ o. omega arith) (λ o. omega arith)
+pub returns-in_default : goal.returns-in_default
+returns-in_default c = no_digit _ (λ o. omega arith) (λ o. omega arith)
 
-pub returns-then-c-lt103 : goal.returns-then-c-lt103
-returns-then-c-lt103 c = high_digit _ (omega arith) (omega arith)
+pub returns-in_default-2 : goal.returns-in_default-2
+returns-in_default-2 c = no_digit _ (λ o. omega arith) (λ o. omega arith)
 
-pub returns : goal.returns
-returns c = no_digit _ (λ o. omega arith) (λ o. omega arith)
+pub returns-in_default-3 : goal.returns-in_default-3
+returns-in_default-3 c = no_digit _ (λ o. omega arith) (λ o. omega arith)

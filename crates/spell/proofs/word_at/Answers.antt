@@ -1,30 +1,22 @@
--- The loop's invariant is that the rows so far are tried, and how far they go (`Tried`); each return and each turn is one of its laws.
--- Assumes nothing.
+-- Each row as one law. Assumes nothing.
 use native.Mathlib.Omega.{arith}
-use mathlib.Core.Logic.{inl, inr}
-use Rattle.spell.proofs.Rows.{common_less, row_found, one_tried, row_missed, all_tried}
+use mathlib.Core.Path.{refl}
+use Rattle.std.proofs.Common.{length}
+use Rattle.std.proofs.lemmas.Slice.{between_to_end}
+use Rattle.spell.proofs.Rows.{row_found, row_lost, no_row, row_tried, all_tried}
 use Rattle.spell.proofs.word_at.Goals as goal
-use Rattle.spell.proofs.word_at.Goals.{then-b-byte_short+else-n-length_of+then-far-at, then-b-byte_short+else-n-length_of+else-far-at, else-b-byte_short}
 
-pub returns-then-n-length_of : goal.returns-then-n-length_of
-returns-then-n-length_of c = row_found c.loop-row.invariant c.loop-row-test.true c.common-n.ensures (omega (arith, c.length_of.ensures.0))
+pub loop-row-init : goal.loop-row-init
+loop-row-init c = no_row refl refl
+
+pub returns-then-n-word : goal.returns-then-n-word
+returns-then-n-word c =
+    row_found c.requires.0 (between_to_end c.args.text.now c.args.at (length c.args.text.now) (omega arith)) c.shared-n.ensures c.loop-row.row c.word-word.ensures c.loop-row.auto.row c.loop-row-test.true c.if-n-word.true
 
 pub loop-row-preserved : goal.loop-row-preserved
 loop-row-preserved c =
-    elim c.if-b-byte_short.branch [
-      | then-b-byte_short+else-n-length_of+then-far-at w ↦
-          one_tried c.loop-row.invariant c.loop-row-test.true
-          (common_less w.common-n.ensures (λ e. w.if-n-length_of.false (omega (arith, e, w.length_of.ensures.0))))
-          (inl (w.if-far-at.true, w.far-is))
-      | then-b-byte_short+else-n-length_of+else-far-at w ↦
-          one_tried c.loop-row.invariant c.loop-row-test.true
-          (common_less w.common-n.ensures (λ e. w.if-n-length_of.false (omega (arith, e, w.length_of.ensures.0))))
-          (inr (w.if-far-at.false, w.far-is))
-      | else-b-byte_short w ↦
-          row_missed c.loop-row.invariant c.args.words.now c.requires.3 c.requires.2 c.requires.0 c.loop-row-test.true
-          (λ e. w.if-b-byte_short.false (omega (arith, c.byte_at-b.ensures, c.byte_short.ensures.0, e)))
-          w.far-is
-    ]
+    rw c.max-far.ensures (row_tried c.loop-row.auto.row c.loop-row.invariant
+    (row_lost c.requires.0 (between_to_end c.args.text.now c.args.at (length c.args.text.now) (omega arith)) c.shared-n.ensures c.loop-row.row c.word-word.ensures (omega arith) c.if-n-word.false))
 
 pub returns : goal.returns
-returns c = all_tried c.loop-row.invariant c.requires.1 (omega arith)
+returns c = all_tried c.requires.1 (omega arith) c.loop-row.invariant

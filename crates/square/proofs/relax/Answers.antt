@@ -1,31 +1,23 @@
--- `relax` meets its contract. Invariant: the rows passed are relaxed. Measure: the rows left.
+-- `relax`: the rows passed are relaxed, the others as they were.
 -- Assumes nothing.
-use mathlib.Core.Path.{ap, ◌∙◌}
-use mathlib.Core.List.{[]}
-use native.Mathlib.Omega.{arith}
-use native.Mathlib.Nat.{not-suc-le-zero}
-use borrow.Author.Rules.{rules}
-use lib.IntN.{ℤ}
-use Rattle.walks.specs.Longest.{relax_b}
-use Rattle.square.specs.Square.{best, cell}
+use Rattle.std.proofs.Common.{ap, ◌∙◌, arith, rules, get_or, get_or-set_other, List, []}
+use lib.IntN.{ℤ, pos}
+use mir.Syntax.{w64}
+use mir.Val.{to_z, of_z}
+use Rattle.walks.specs.Longest.{Best, relax_b}
+use Rattle.square.specs.Square.{best, at, cell}
 use Rattle.basis.proofs.Firsts.{put_more}
-use Rattle.square.proofs.Rows.{Row, cell_is}
+use Rattle.square.proofs.Rows.{Row, read_is}
 use Rattle.square.proofs.relax.Goals as goal
 
-pub loop-i-init : goal.loop-i-init
-loop-i-init c = (search rules, search rules, λ m h. absurd (not-suc-le-zero h))
-
-pub relax_row-requires : goal.relax_row-requires
-relax_row-requires c = let s = c.before.before.before.before.before in
-    (rw (cell_is s.args.d _ c.loop-i.i s.args.k s.well_formed.0 (search rules) c.loop-i-test.true s.requires.0) (s.requires.1 c.loop-i.i s.args.k c.loop-i-test.true s.requires.0), λ j h. s.requires.1 s.args.k j s.requires.0 h)
-
-pub loop-i-preserved : goal.loop-i-preserved
-loop-i-preserved c = let s = c.before.before.before.before.before.before in let l = c.loop-i in (
-  search rules,
-  search rules,
-  put_more (Row s.args.d s.args.k) [] l.out l.i c.relax_row.result (search rules) l.invariant.2
-      (λ j h. c.relax_row.ensures j h ∙ ap (λ (z : ℤ). relax_b (cell s.args.d l.i j) (best z) (cell s.args.d s.args.k j)) (cell_is s.args.d _ l.i s.args.k s.well_formed.0 (search rules) c.loop-i-test.true s.requires.0)),
-)
-
-pub returns : goal.returns
-returns c i j h g = c.loop-i.invariant.2 i (omega arith) j g
+pub loop-row-preserved : goal.loop-row-preserved
+loop-row-preserved c =
+    let l = c.loop-row in
+    let d = c.args.d.now in
+    let k = c.args.k in
+    record {
+      size = search rules;
+      passed = put_more (Row d k) [] l.d l.row-index _ (search rules) l.invariant.passed
+          (λ j h. c.relax_row.ensures j h ∙ ap (λ (row : List ℤ). relax_b (at row j) (best (to_z w64 (of_z w64 (get_or row k (pos 0))))) (cell d k j)) (l.invariant.left l.row-index (omega arith)) ∙ ap (λ (x : Best). relax_b (cell d l.row-index j) x (cell d k j)) (read_is (get_or d l.row-index []) k (search rules)));
+      left = λ m h. get_or-set_other l.d l.row-index m _ [] (λ e. omega arith) ∙ l.invariant.left m (omega arith);
+    }

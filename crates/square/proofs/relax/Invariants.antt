@@ -1,15 +1,13 @@
--- `relax` meets its contract. Invariant: the rows passed are relaxed. Measure: the rows left.
+-- `relax`: the rows passed are relaxed, the others as they were.
 -- Assumes nothing.
-use mathlib.Core.Path.{◌≡◌}
-use mathlib.Core.List.{[]}
-use Prim.Native.Nat.{ℕ, ◌≤◌, ◌<◌, ◌-◌}
-use lib.ListN.{length, get_or}
+use Rattle.std.proofs.Common.{◌≡◌, ℕ, ◌<◌, ◌≤◌, [], length, get_or}
 use Rattle.limits.specs.Limits.{most_streams}
 use Rattle.square.proofs.Rows.{Row}
 use Rattle.square.proofs.relax.Given as goal
 
-abbrev pub invariant-loop-i : goal.invariant-loop-i
-invariant-loop-i l = (l.i ≤ most_streams) × (length l.out ≡ most_streams) × ((m : ℕ) → m < l.i → Row l.d l.k m (get_or l.out m []))
-
-abbrev pub decreases-loop-i : goal.decreases-loop-i
-decreases-loop-i l = most_streams - l.i
+abbrev pub invariant-loop-row : goal.invariant-loop-row
+invariant-loop-row l = record {
+  size : length l.d ≡ most_streams;
+  passed : (m : ℕ) → m < l.row-index → Row l.initial.d l.k m (get_or l.d m []);
+  left : (m : ℕ) → l.row-index ≤ m → get_or l.d m [] ≡ get_or l.initial.d m [];
+}

@@ -1,57 +1,44 @@
--- `store::lay` meets its contract: the rows before v's are laid, and `part` is where the next part starts.
+-- `store::lay` meets its contract: the parts before v's are laid, and `start` is where the next part starts.
 -- Assumes nothing.
-use mathlib.Core.Path.{◌≡◌}
-use Prim.Native.Nat.{◌+◌, ◌<◌, ◌^◌}
+use mathlib.Core.Path.{◌≡◌, ap, ◌∙◌}
+use Prim.Native.Nat.{◌+◌, ◌≤◌, ◌<◌, ◌^◌}
 use native.Mathlib.Omega.{arith}
+use lib.ListN.{length}
+use Rattle.basis.specs.Firsts.{of}
 use Rattle.basis.proofs.Sums.{sum_on}
-use Rattle.store.proofs.Frames.{Lapped, newest_due, newest_last, newest_small, none_before, laid_none, lapped_due, lapped_not, laid_more, framed}
 use Rattle.limits.specs.Limits.{most_streams}
-use Rattle.store.specs.Store.{newest_of}
+use Rattle.store.specs.declared.Part.{Part}
+use Rattle.store.specs.Store.{newest_of, lap_for}
+use Rattle.store.proofs.Frames.{newest_due, newest_last, none_before, laid_none, laid_more}
 use Rattle.store.proofs.lay.Goals as goal
 use Rattle.store.proofs.lay.Goals.{then-t-known, else-t-known, then-ahead-t, else-ahead-t}
 
 pub loop-v-init : goal.loop-v-init
-loop-v-init c = (omega arith, (omega arith, (none_before _, laid_none _ _ _ _ _ c.requires.shape)))
-
-pub overflow_cast-p : goal.overflow_cast-p
-overflow_cast-p c =
-    let look = c.args.look.now in
-    let v = c.loop-v.v in
-    let newest : c.if-t-known.p ≡ newest_of look c.args.known c.args.t v = elim c.if-t-known.branch [
-      | then-t-known w ↦ newest_due look c.args.known c.args.t v c.short_wide-ahead.ensures.0 w.if-t-known.true w.p-is
-      | else-t-known w ↦ newest_last look c.args.known c.args.t v c.short_wide-ahead.ensures.0 w.if-t-known.false w.p-is
-    ] in
-    record { fits = omega (arith, newest, newest_small look c.args.known c.args.t v c.short_wide-ahead.ensures.0 c.requires.row newest, c.requires.rows) }
-
-pub lap_before-requires : goal.lap_before-requires
-lap_before-requires c = omega (arith, c.short_word-n.ensures.0, c.requires.some _ c.loop-v-test.true)
-
-pub overflow_add-part : goal.overflow_add-part
-overflow_add-part c = record { fits = omega (arith, c.loop-v.invariant.1.0, c.short_word-n.ensures.1, c.loop-v-test.true, c.requires.few) }
+loop-v-init c = record { small = omega arith; start = none_before _; laid = laid_none _ _ _ _ _ _ }
 
 pub loop-v-preserved : goal.loop-v-preserved
 loop-v-preserved c =
-    let types = c.args.types.now in
     let look = c.args.look.now in
     let kept = c.args.kept.now in
     let n = c.args.known in
     let t = c.args.t in
     let v = c.loop-v.v in
     let below : v < most_streams = omega (arith, c.loop-v-test.true, c.requires.few) in
-    let laid = c.loop-v.invariant.1.1.1 in
-    let lapped : Lapped types look kept n t v c.if-ahead-t.frame = elim c.if-ahead-t.branch [
+    let long : length c.loop-v.frame.parts ≡ most_streams = omega arith in
+    let lap : of look v ≤ t → c.if-ahead-t.part.lap ≡ lap_for (newest_of look n t v) (of kept v) = elim c.if-ahead-t.branch [
       | then-ahead-t w ↦
           (let newest : w.if-t-known.p ≡ newest_of look n t v = elim w.if-t-known.branch [
-            | then-t-known y ↦ newest_due look n t v c.short_wide-ahead.ensures.0 y.if-t-known.true y.p-is
-            | else-t-known y ↦ newest_last look n t v c.short_wide-ahead.ensures.0 y.if-t-known.false y.p-is
+            | then-t-known y ↦ newest_due look n t v c.from-ahead.ensures y.if-t-known.true y.p-is
+            | else-t-known y ↦ newest_last look n t v c.from-ahead.ensures y.if-t-known.false y.p-is
           ] in
-          lapped_due types look kept n t v below laid newest c.short_word-n.ensures.0 w.lap_before.ensures w.frame-is)
-      | else-ahead-t w ↦ lapped_not types look kept n t v below laid c.short_wide-ahead.ensures.0 w.if-ahead-t.false w.frame-is
+          λ early. ap (λ (p : Part). p.lap) w.part-is ∙ w.lap_before-part.ensures ∙ (λ i. lap_for (newest i) (c.from-n.ensures i)))
+      | else-ahead-t w ↦ λ early. absurd (omega (arith, c.from-ahead.ensures, w.if-ahead-t.false))
     ] in
-    let starts = c.loop-v.invariant.1.1.0 in
-    let narrow : c.loop-v.part + c.short_word-n.result < 2 ^ 32 = omega (arith, c.loop-v.invariant.1.0, c.short_word-n.ensures.1, c.loop-v-test.true, c.requires.few) in
-    let more = laid_more types look kept n t v below lapped starts c.short_word-n.ensures.0 c.byte_word.ensures.0 narrow c.byte_word.ensures.1 in
-    (omega arith, (omega (arith, c.loop-v.invariant.1.0, c.short_word-n.ensures.1), (sum_on _ starts c.short_word-n.ensures.0, more)))
-
-pub returns : goal.returns
-returns c = framed c.requires.few c.loop-v.invariant.0 c.loop-v-test.false c.loop-v.invariant.1.1.1
+    let keep = c.from-n.ensures in
+    let start = c.loop-v.invariant.start in
+    let narrow : c.loop-v.start + c.from-n.result < 2 ^ 32 = omega (arith, c.loop-v.invariant.small, keep, c.fits-kept v, below) in
+    record {
+      small = omega (arith, c.loop-v.invariant.small, keep, c.fits-kept v);
+      start = sum_on _ start keep;
+      laid = laid_more long below c.loop-v.invariant.laid _ lap start keep (λ i. of c.args.types.now v) narrow;
+    }

@@ -1,14 +1,15 @@
--- `store::lay` meets its contract: the rows before v's are laid, and `part` is where the next part starts.
+-- `store::lay` meets its contract: the parts before v's are laid, and `start` is where the next part starts.
 -- Assumes nothing.
 use mathlib.Core.Path.{◌≡◌}
-use Prim.Native.Nat.{◌*◌, ◌-◌, ◌≤◌}
+use Prim.Native.Nat.{◌*◌, ◌≤◌}
 use Rattle.basis.specs.Firsts.{of}
 use Rattle.run.specs.Words.{base}
 use Rattle.store.specs.Store.{Laid}
 use Rattle.store.proofs.lay.Given as goal
 
 abbrev pub invariant-loop-v : goal.invariant-loop-v
-invariant-loop-v l = (l.v ≤ l.streams) × ((l.part ≤ 65535 * l.v) × ((l.part ≡ base (of l.kept) l.v) × Laid l.types l.look l.kept l.v l.known l.t l.frame))
-
-abbrev pub decreases-loop-v : goal.decreases-loop-v
-decreases-loop-v l = l.streams - l.v
+invariant-loop-v l = record {
+  small : l.start ≤ 65535 * l.v;
+  start : l.start ≡ base (of l.kept) l.v;
+  laid : Laid l.types l.look l.kept l.v l.known l.t l.frame.parts;
+}

@@ -9,6 +9,3 @@ offset_bounds-store-place c = omega (arith, place_inside c.requires c.place.ensu
 
 pub bounds-store-place : goal.bounds-store-place
 bounds-store-place c = place_inside c.requires c.place.ensures
-
-pub returns : goal.returns
-returns c = rw (← c.place.ensures) c.reading.ensures

@@ -9,6 +9,3 @@ offset_bounds-store-i c = omega (arith, place_inside c.requires c.place-i.ensure
 
 pub bounds-store-i : goal.bounds-store-i
 bounds-store-i c = place_inside c.requires c.place-i.ensures
-
-pub returns : goal.returns
-returns c = rw (c.place-i.ensures, c.image-w.ensures)
