@@ -16,7 +16,7 @@ module _ (a b : List ℕ) where
   front_words k zero h = refl
   front_words k (suc n) h = ap₂ (λ (l : List ℕ) (w : ℕ). l ++ (w ∷ [])) (front_words k n (omega arith)) (word_in_front a b (k + 4 * n) (omega arith))
 
-  behind_words : (j k n : ℕ) → j ≡ length a + k → words_at (a ++ b) j n ≡ words_at b k n
+  pub behind_words : (j k n : ℕ) → j ≡ length a + k → words_at (a ++ b) j n ≡ words_at b k n
   unfolding words_at
   behind_words j k zero e = refl
   behind_words j k (suc n) e = ap₂ (λ (l : List ℕ) (w : ℕ). l ++ (w ∷ [])) (behind_words j k n e) (word_past a b (j + 4 * n) (k + 4 * n) (omega arith))

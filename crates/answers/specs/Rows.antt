@@ -1,13 +1,14 @@
 -- What the program prints of its rows and its closing turns (document 01, "The program"): the answers of the calls, one after another.
 -- Assumes nothing.
-use Rattle.std.specs.Prelude.{ℕ, zero, suc, ◌*◌, ◌≤◌, ◌<◌, ◌≡◌, true, false, cond, List, [], ◌++◌, eqb, length, take, replicate}
+use Rattle.std.specs.Prelude.{ℕ, zero, suc, ◌*◌, ◌≤◌, ◌<◌, ◌≡◌, true, false, cond, List, [], ◌++◌, eqb, length, take, replicate, ◌+◌, Result, Ok, Err, IfOk}
 use Rattle.basis.specs.Written.{Wrote}
 use Rattle.limits.specs.Refusals.{accepted}
-use Rattle.lines.specs.Lines.{refusal_line}
+use Rattle.limits.specs.declared.Refusal.{Refusal}
+use Rattle.lines.specs.Lines.{refusal_line, most_refusal_line}
 use Rattle.records.specs.Kinds.{most_room}
 use Rattle.records.specs.Lines.{lines_of}
 use Rattle.monitor.specs.declared.Run.{Run}
-use Rattle.monitor.specs.Refusals.{is_draining_of}
+use Rattle.monitor.specs.Refusals.{told, is_draining_of}
 use Rattle.monitor.specs.Calls.{After, row_call_of, drain_call_of}
 use Rattle.answers.specs.Words.{words_at}
 
@@ -18,6 +19,14 @@ lent = replicate most_room 0
 -- a line for each record that the call gave, or "A refused row is reported"
 unfoldable pub answer_text : (number place : ℕ) (records : List ℕ) → List ℕ
 answer_text number place records = cond (eqb number accepted) (lines_of records) (refusal_line number place)
+
+-- the same by what the code has for it, and what that needs
+abbrev pub outcome_text : Result ℕ Refusal → (out : List ℕ) → List ℕ
+outcome_text (Ok count) out = lines_of (take count out)
+outcome_text (Err e) out = refusal_line (told e).number (told e).place
+
+abbrev pub Fits : Result ℕ Refusal → (out text : List ℕ) (at : ℕ) → Type 0
+Fits o out text at = IfOk o (λ count. (count ≤ length out) × (at + 3 * count ≤ length text)) × (at + most_refusal_line ≤ length text)
 
 abbrev pub text_of : After → List ℕ
 text_of a = answer_text a.answer.number a.answer.place (take a.answer.count a.output)
@@ -67,3 +76,14 @@ pub record Taken (input : List ℕ) (inputs rows used : ℕ) : Type 0 where
   pub used_is : used ≡ rows * (4 * inputs)
   pub whole : used ≤ length input
   pub some : used ≡ 0 → length input < 4 * inputs
+
+-- so were some rows answered, and so were some closing turns
+pub record Answered (s input : List ℕ) (inputs : ℕ) (x : Progress) (r : Run) (st before after : List ℕ) (used end : ℕ) : Type 0 where
+  pub rows : ℕ
+  pub reached : Reached (after_rows s input inputs rows x) r st before 0 after end
+  pub taken : Taken input inputs rows used
+
+pub record Drained (s : List ℕ) (x : Progress) (r : Run) (st before after : List ℕ) (end : ℕ) : Type 0 where
+  pub turns : ℕ
+  pub reached : Reached (after_drains s turns x) r st before 0 after end
+  pub drains : Drains s turns x

@@ -1,98 +1,80 @@
 // The text of rows and of closing turns, on lent slices (document 01, "The program"): the answers of the calls, as lines.
 #![tactic(auto)]
 
-ghost use Rattle.std.specs.Prelude.{◌≡◌, ◌+◌, ◌*◌, ◌≤◌, ◌<◌, length, take};
+ghost use Rattle.std.specs.Prelude.{◌≡◌, ◌+◌, ◌*◌, ◌≤◌, ◌<◌, length};
 ghost use Rattle.basis.specs.Written.{Wrote};
 ghost use Rattle.limits.specs.Limits.{most_streams};
-ghost use Rattle.lines.specs.Lines.{most_refusal_line};
 ghost use Rattle.records.specs.Kinds.{most_text};
-ghost use Rattle.monitor.specs.Refusals.{is_draining_of};
 ghost use Rattle.answers.specs.Words.{words_at};
-ghost use Rattle.answers.specs.Rows.{answer_text, begun, after_row, after_rows, after_drain, after_drains, Reached, Drains, Taken};
+ghost use Rattle.answers.specs.Rows.{Fits, outcome_text, begun, after_row, after_drain, Reached, Answered, Drained};
 
+use limits::Refusal;
 use monitor::{Phase, Run};
 
-// A run has fewer closing turns, since a look-ahead has 16 bits: the count only ends the loop.
-const TURNS_MOST: usize = 65536;
-
-// A run after a turn, and where its text ends.
+// A run after some turns, and where their text ends.
 #[derive(Clone, Copy)]
-struct Turned {
-    run: Run,
-    at: usize,
+pub struct Turned {
+    pub run: Run,
+    pub at: usize,
 }
 
 // A run after some rows, the bytes that they took, and where their text ends.
 #[derive(Clone, Copy)]
 pub struct Fed {
     pub run: Run,
-    pub rows: usize,
     pub used: usize,
     pub at: usize,
 }
 
-// A run after some closing turns, and where their text ends.
-#[derive(Clone, Copy)]
-pub struct Drained {
-    pub run: Run,
-    pub turns: usize,
-    pub at: usize,
-}
-
-// The words of the row that begins at byte `from`.
-fn row_words(input: &[u8], from: usize, inputs: usize, words: &mut [u32])
-    requires { (from + 4 * inputs ≤ length input.now) × (inputs ≤ length words.old) }
-    ensures { take inputs words.new ≡ words_at input.now from inputs }
+// The words of a row, as many as are lent.
+fn row_words(row: &[u8], words: &mut [u32])
+    requires { 4 * length words.old ≤ length row.now }
+    ensures { words.new ≡ words_at row.now 0 (length words.old) }
 {
-    let mut i: usize = 0;
-    while i < inputs {
-        words[i] = wire::word_at(input, from + 4 * i);
-        i += 1;
+    for i in 0..words.len() {
+        words[i] = wire::word_at(row, 4 * i);
     }
 }
 
-// A line for each record in the first `count` bytes, or the line of the refusal.
-#[tactic(auto, unfolding(crate::specs::Rows::answer_text))]
+// A line for each record that the call wrote, or the line of its refusal.
 fn put_answer(
-    number: u8,
-    place: usize,
+    outcome: Result<usize, Refusal>,
     out: &[u8],
-    count: usize,
     text: &mut [u8],
     at: usize,
 ) -> usize
-    requires { (count ≤ length out.now) × (at + 3 * count ≤ length text.old) × (at + most_refusal_line ≤ length text.old) }
-    ensures { Wrote text.old at (answer_text number place (take count out.now)) text.new result }
+    requires { Fits outcome out.now text.old at }
+    ensures { Wrote text.old at (outcome_text outcome out.now) text.new result }
 {
-    if number == limits::ACCEPTED {
-        records::put_lines(out, count, text, at)
-    } else {
-        lines::put_refusal_line(text, at, number, place)
+    match outcome {
+        Ok(count) => records::put_lines(out, count, text, at),
+        Err(refusal) => {
+            lines::put_refusal_line(text, at, u8::from(refusal.fault), refusal.place)
+        }
     }
 }
 
-// The lines of the row that begins at byte `from`, or of its refusal.
+// The lines of a row of so many words, or of its refusal.
 fn answer_row(
     run: Run,
     table: &[u8],
     store: &mut [u32],
-    input: &[u8],
-    from: usize,
+    row: &[u8],
     inputs: usize,
     text: &mut [u8],
     at: usize,
 ) -> Turned
-    requires { (from + 4 * inputs ≤ length input.now) × (inputs < most_streams) × (at + most_text ≤ length text.old) }
-    ensures { Reached (after_row table.now (words_at input.now from inputs) (begun run store.old))
+    requires { (4 * inputs ≤ length row.now) × (inputs < most_streams) × (at + most_text ≤ length text.old) }
+    ensures { Reached (after_row table.now (words_at row.now 0 inputs) (begun run store.old))
         result.run store.new text.old at text.new result.at }
 {
     let mut words = [0u32; limits::STREAMS_MOST];
     let mut out = [0u8; records::ROOM_MOST];
-    row_words(input, from, inputs, &mut words);
-    let answer = run.row(table, store, &words[..inputs], &mut out);
-    let end = put_answer(answer.number, answer.place, &out, answer.count, text, at);
-    let next = answer.run;
-    Turned { run: next, at: end }
+    let words = &mut words[..inputs];
+    row_words(row, words);
+    let answer = run.row(table, store, words, &mut out);
+    let end = put_answer(answer.outcome, &out, text, at);
+    Turned { run: answer.run, at: end }
 }
 
 // Rows from the front of the input: as many as are there, whole, and as the text has room for.
@@ -105,41 +87,22 @@ pub fn answer_rows(
     text: &mut [u8],
 ) -> Fed
     requires { (1 ≤ inputs) × (inputs < most_streams) × (most_text ≤ length text.old) }
-    ensures reached { Reached (after_rows table.now input.now inputs result.rows (begun run store.old))
-        result.run store.new text.old 0 text.new result.at }
-    ensures taken { Taken input.now inputs result.rows result.used }
+    ensures { Answered table.now input.now inputs (begun run store.old)
+        result.run store.new text.old text.new result.used result.at }
 {
-    let size = 4 * inputs;
     let mut latest = run;
-    let mut rows: usize = 0;
-    let mut used: usize = 0;
-    let mut at: usize = 0;
-    while size <= input.len() - used && records::TEXT_MOST <= text.len() - at {
-        let turned = answer_row(latest, table, store, input, used, inputs, text, at);
-        let next = turned.run;
-        latest = next;
+    let mut used = 0;
+    let mut at = 0;
+    for row in input.chunks_exact(4 * inputs) {
+        if text.len() - at < records::TEXT_MOST {
+            break;
+        }
+        let turned = answer_row(latest, table, store, row, inputs, text, at);
+        latest = turned.run;
         at = turned.at;
-        used += size;
-        rows += 1;
+        used += row.len();
     }
-    Fed {
-        run: latest,
-        rows: rows,
-        used: used,
-        at: at,
-    }
-}
-
-// Whether closing turns are left.
-pub fn is_draining(run: Run) -> bool
-    ensures { result ≡ is_draining_of run.phase }
-{
-    let phase = run.phase;
-    match phase {
-        Phase::Reading => false,
-        Phase::Draining => true,
-        Phase::Over => false,
-    }
+    Fed { run: latest, used, at }
 }
 
 // The lines of one closing turn.
@@ -150,31 +113,21 @@ fn drain_turn(run: Run, table: &[u8], store: &mut [u32], text: &mut [u8], at: us
 {
     let mut out = [0u8; records::ROOM_MOST];
     let answer = run.drain(table, store, &mut out);
-    let end = put_answer(answer.number, answer.place, &out, answer.count, text, at);
-    let next = answer.run;
-    Turned { run: next, at: end }
+    let end = put_answer(answer.outcome, &out, text, at);
+    Turned { run: answer.run, at: end }
 }
 
 // Closing turns: as many as there are and as the text has room for.
-pub fn drain_turns(run: Run, table: &[u8], store: &mut [u32], text: &mut [u8]) -> Drained
+pub fn drain_turns(run: Run, table: &[u8], store: &mut [u32], text: &mut [u8]) -> Turned
     requires { most_text ≤ length text.old }
-    ensures reached { Reached (after_drains table.now result.turns (begun run store.old))
-        result.run store.new text.old 0 text.new result.at }
-    ensures drains { Drains table.now result.turns (begun run store.old) }
+    ensures { Drained table.now (begun run store.old) result.run store.new text.old text.new result.at }
 {
     let mut latest = run;
-    let mut turns: usize = 0;
-    let mut at: usize = 0;
-    while turns < TURNS_MOST && records::TEXT_MOST <= text.len() - at && is_draining(latest) {
+    let mut at = 0;
+    while latest.phase == Phase::Draining && records::TEXT_MOST <= text.len() - at {
         let turned = drain_turn(latest, table, store, text, at);
-        let next = turned.run;
-        latest = next;
+        latest = turned.run;
         at = turned.at;
-        turns += 1;
     }
-    Drained {
-        run: latest,
-        turns: turns,
-        at: at,
-    }
+    Turned { run: latest, at }
 }

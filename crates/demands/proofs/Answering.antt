@@ -25,8 +25,8 @@ use Rattle.prepare.proofs.Accepted.{plan_words}
 use Rattle.monitor.specs.declared.Phase.{Phase}
 use Rattle.monitor.specs.declared.Phase.TheVariants.{Reading, Draining, Over}
 use Rattle.monitor.specs.declared.Run.{Run}
-use Rattle.monitor.specs.declared.Fault.{Fault}
-use Rattle.monitor.specs.declared.Answer.{Answer}
+use Rattle.monitor.specs.Refusals.{Fault}
+use Rattle.monitor.specs.Calls.{Answer}
 use Rattle.monitor.specs.Turns.{bytes_on}
 use Rattle.monitor.specs.Refusals.{fine, open_fault, refuse_if, phase_agrees, record_agrees_of, of_table_of, is_reading_of, is_draining_of, close_refusal, close_fault_of, row_refusal, row_fault_of, drain_refusal, drain_fault_of}
 use Rattle.monitor.specs.Calls.{After, refusal, acceptance, open_call, row_call_of, closed_phase_of, close_call, drained_phase_of, drain_call_of, Leaves, Opens}

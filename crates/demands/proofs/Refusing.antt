@@ -10,7 +10,7 @@ use Rattle.announce.specs.Announced.{announced}
 use Rattle.run.specs.Run.{store_after}
 use Rattle.prepare.specs.PlanFor.{plan_for}
 use Rattle.monitor.specs.declared.Run.{Run}
-use Rattle.monitor.specs.declared.Fault.{Fault}
+use Rattle.monitor.specs.Refusals.{Fault}
 use Rattle.monitor.specs.Turns.{bytes_on}
 use Rattle.monitor.specs.Refusals.{open_fault, row_fault_of, drain_fault_of, close_fault_of}
 use Rattle.monitor.specs.Calls.{acceptance, refusal, zero_run, open_call, row_call_of, close_call, drain_call_of}

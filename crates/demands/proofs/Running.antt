@@ -21,8 +21,8 @@ use Rattle.announce.specs.Announced.{announced}
 use Rattle.prepare.specs.PlanFor.{plan_for}
 use Rattle.prepare.proofs.Accepted.{plan_words, plan_announced}
 use Rattle.monitor.specs.declared.Run.{Run}
-use Rattle.monitor.specs.declared.Fault.{Fault}
-use Rattle.monitor.specs.declared.Answer.{Answer}
+use Rattle.monitor.specs.Refusals.{Fault}
+use Rattle.monitor.specs.Calls.{Answer}
 use Rattle.monitor.specs.Refusals.{fine, refuse_if, after_table, open_fault}
 use Rattle.monitor.specs.Calls.{After, refusal, acceptance, zero_run, open_call}
 use Rattle.demands.specs.Runs.{rec_of, Numbered, bytes_given_of}

@@ -18,7 +18,7 @@ use Rattle.prepare.proofs.Accepted.{plan_words, plan_announced}
 use Rattle.monitor.specs.declared.Phase.{Phase}
 use Rattle.monitor.specs.declared.Phase.TheVariants.{Reading, Draining, Over}
 use Rattle.monitor.specs.declared.Run.{Run}
-use Rattle.monitor.specs.declared.Fault.{Fault}
+use Rattle.monitor.specs.Refusals.{Fault}
 use Rattle.monitor.specs.Turns.{bytes_on}
 use Rattle.monitor.specs.Refusals.{refuse_if, after_table, open_fault, row_fault_of, row_refusal, drain_fault_of, drain_refusal}
 use Rattle.monitor.specs.Calls.{After, acceptance, accepted_with, refusal, zero_run, open_call, row_call_of, drain_call_of}

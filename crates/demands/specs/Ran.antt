@@ -8,7 +8,7 @@ use Rattle.run.specs.Run.{Call, Lent}
 use Rattle.run.specs.Demands.{Demand3}
 use Rattle.prepare.specs.PlanFor.{plan_for}
 use Rattle.monitor.specs.declared.Run.{Run}
-use Rattle.monitor.specs.declared.Answer.{Answer}
+use Rattle.monitor.specs.Calls.{Answer}
 use Rattle.monitor.specs.Calls.{open_call, row_call_of, close_call, drain_call_of, Leaves, Opens}
 use Rattle.demands.specs.Runs.{rec_of, bytes_given_of}
 

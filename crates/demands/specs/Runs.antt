@@ -12,7 +12,7 @@ use Rattle.prepare.specs.PlanFor.{table_for, plan_for}
 use Rattle.monitor.specs.declared.Phase.{Phase}
 use Rattle.monitor.specs.declared.Phase.TheVariants.{Reading, Draining, Over}
 use Rattle.monitor.specs.declared.Run.{Run}
-use Rattle.monitor.specs.declared.Answer.{Answer}
+use Rattle.monitor.specs.Calls.{Answer}
 use Rattle.monitor.specs.Turns.{in_words}
 
 unfoldable pub phase_for : Phase → run.Phase

@@ -2,7 +2,7 @@
 -- Assumes nothing.
 use Rattle.std.specs.Prelude.{ℕ, List, [], ◌∷◌}
 use Rattle.monitor.specs.declared.Run.{Run}
-use Rattle.monitor.specs.declared.Answer.{Answer}
+use Rattle.monitor.specs.Calls.{Answer}
 use Rattle.monitor.specs.Calls.{After, open_call, row_call_of, close_call, drain_call_of}
 
 -- a call with one table: the record that it brings, its row and its output

@@ -8,17 +8,17 @@ use lib.Dec.{ltb}
 use borrow.Author.Tests.{lt-ltb, le-ltb}
 use Rattle.limits.specs.Refusals.{foreign_record}
 use Rattle.monitor.specs.declared.Run.{Run}
-use Rattle.monitor.specs.declared.Answer.{Answer}
-use Rattle.monitor.specs.declared.Fault.{Fault}
-use Rattle.monitor.specs.Refusals.{fault, after_table}
-use Rattle.monitor.specs.Calls.{After, open_call, close_call, Leaves, Opens}
+use Rattle.monitor.specs.Refusals.{Fault, fault, after_table}
+use Rattle.monitor.specs.Calls.{Answer, After, open_call, close_call, Leaves, Opens}
 use Rattle.dock.specs.declared.Record.{Record}
 use Rattle.dock.specs.declared.Reply.{Reply}
+use Rattle.dock.specs.declared.Told.{Told}
 use Rattle.dock.specs.Lent.{over_byte, reply_for, Left, left_by_of, strange_reply, lent, lent_open, Gives}
 
-pub strange_is : (s : List ℕ) (d : Record) {f : Fault} → f ≡ after_table s (fault foreign_record 0) → record { held = d; told = record { number = f.number; place = f.place; count = 0 } } ≡ strange_reply s d
+pub strange_is : (s : List ℕ) (d : Record) {t : Told} {f : Fault} → t ≡ record { number = f.number; place = f.place; count = 0 } → f ≡ after_table s (fault foreign_record 0)
+    → record { held = d; told = t } ≡ strange_reply s d
 unfolding strange_reply
-strange_is s d e = ap (λ (f : Fault). record { held = d; told = record { number = f.number; place = f.place; count = 0 } }) e
+strange_is s d e g = rw (e, g)
 
 gives_as : {x y : Left} {a : Reply} {st out : List ℕ} → x ≡ y → Gives y a st out → Gives x a st out
 gives_as e g = rw e g

@@ -8,9 +8,8 @@ use lib.ListN.{length}
 use borrow.Author.Tests.{ltb-false}
 use Rattle.basis.proofs.Tests.{pick_case}
 use Rattle.monitor.specs.declared.Run.{Run}
-use Rattle.monitor.specs.declared.Fault.{Fault}
 use Rattle.monitor.specs.declared.Phase.{Phase}
-use Rattle.monitor.specs.Refusals.{open_fault, row_fault_of, close_fault_of, drain_fault_of}
+use Rattle.monitor.specs.Refusals.{Fault, open_fault, row_fault_of, close_fault_of, drain_fault_of}
 use Rattle.monitor.specs.Calls.{After, unless, refusal, zero_run, open_call, row_call_of, close_call, drain_call_of}
 use Rattle.dock.specs.declared.Record.{Record}
 use Rattle.dock.specs.declared.Told.{Told}

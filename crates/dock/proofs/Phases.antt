@@ -1,47 +1,44 @@
 -- The phase as a byte, and the byte as a phase.
 -- Assumes nothing.
 use Prim.Native.Nat.{ℕ, zero, suc, ◌≤◌}
-use mathlib.Core.Path.{◌≡◌, refl}
+use mathlib.Core.Path.{◌≡◌, refl, sym, ap, ◌∙◌}
 use mathlib.Core.Bool.{false}
 use native.Mathlib.Omega.{arith}
 use lib.Dec.{ltb}
-use borrow.Author.Tests.{eq-eqb, ne_eqb}
+use borrow.Author.Tests.{ltb-false}
 use Rattle.monitor.specs.declared.Phase.{Phase}
 use Rattle.monitor.specs.declared.Phase.TheVariants.{Reading, Draining, Over}
-use Rattle.dock.specs.Lent.{reading_byte, draining_byte, over_byte, number_of, phase_for}
-
-module _ (n : ℕ) where
-  pub reading_is : n ≡ reading_byte → Reading ≡ phase_for n
-  unfolding phase_for
-  reading_is e = rw (eq-eqb _ _ e)
-
-  module _ (not_reading : n ≡ reading_byte → ⊥) where
-    pub draining_is : n ≡ draining_byte → Draining ≡ phase_for n
-    unfolding phase_for
-    draining_is e = rw (ne_eqb _ _ not_reading, eq-eqb _ _ e)
-
-    pub over_is : (n ≡ draining_byte → ⊥) → Over ≡ phase_for n
-    unfolding phase_for
-    over_is f = rw (ne_eqb _ _ not_reading, ne_eqb _ _ f)
+use Rattle.monitor.specs.declared.Run.{Run}
+use Rattle.monitor.specs.Phases.{byte_of}
+use Rattle.dock.specs.declared.Record.{Record}
+use Rattle.dock.specs.Lent.{over_byte, phase_for, run_of}
 
 -- the byte of a phase is that phase
-pub phase_of_number : (p : Phase) → phase_for (number_of p) ≡ p
-unfolding number_of phase_for
+pub phase_of_number : (p : Phase) → phase_for (byte_of p) ≡ p
+unfolding phase_for
 phase_of_number Reading = refl
 phase_of_number Draining = refl
 phase_of_number Over = refl
 
 -- and a byte that is a phase is that phase's byte
-pub number_of_phase : (n : ℕ) → n ≤ over_byte → number_of (phase_for n) ≡ n
-unfolding number_of phase_for
+pub number_of_phase : (n : ℕ) → n ≤ over_byte → byte_of (phase_for n) ≡ n
+unfolding phase_for
 number_of_phase zero h = refl
 number_of_phase (suc zero) h = refl
 number_of_phase (suc (suc zero)) h = refl
 number_of_phase (suc (suc (suc n))) h = absurd (omega arith)
 
 -- a phase's byte is no strange one
-pub is_phase : (p : Phase) → ltb over_byte (number_of p) ≡ false
-unfolding number_of
+pub is_phase : (p : Phase) → ltb over_byte (byte_of p) ≡ false
 is_phase Reading = refl
 is_phase Draining = refl
 is_phase Over = refl
+
+-- so a record whose byte is that of a phase is a run's
+module _ (d : Record) (p : Phase) (e : byte_of p ≡ d.phase) where
+  pub run_known : (d.phase ≤ over_byte) × (record { look = d.look; kept = d.kept; rows = d.rows; phase = p; done = d.done } ≡ run_of d)
+  run_known =
+      (
+        rw (← e) (ltb-false _ _ (is_phase p)),
+        ap (λ (q : Phase). record { look = d.look; kept = d.kept; rows = d.rows; phase = q; done = d.done }) (sym (phase_of_number p) ∙ ap phase_for e),
+      )

@@ -1,13 +1,16 @@
 -- What each entry of the dock leaves, for every argument (document 01, "A run"): "that entry gives what the by-value call gives".
 -- Assumes nothing.
-use Rattle.std.specs.Prelude.{ℕ, ◌≡◌, cond, List, [], eqb, ltb}
-use Rattle.limits.specs.Refusals.{foreign_record}
+use Rattle.std.specs.Prelude.{ℕ, ◌≤◌, ◌<◌, ◌≡◌, cond, List, [], eqb, ltb, Option, MatchOption, Result, Ok, Err}
+use Rattle.limits.specs.Refusals.{accepted, foreign_record}
+use Rattle.limits.specs.Faults.{number_for}
+use Rattle.limits.specs.declared.Refusal.{Refusal}
 use Rattle.monitor.specs.declared.Run.{Run}
-use Rattle.monitor.specs.declared.Answer.{Answer}
+use Rattle.monitor.specs.declared.Answer as code
 use Rattle.monitor.specs.declared.Phase.{Phase}
 use Rattle.monitor.specs.declared.Phase.TheVariants.{Reading, Draining, Over}
+use Rattle.monitor.specs.Phases.{byte_of}
 use Rattle.monitor.specs.Refusals.{fault, after_table}
-use Rattle.monitor.specs.Calls.{After, open_call, row_call_of, close_call, drain_call_of}
+use Rattle.monitor.specs.Calls.{Answer, answered, After, open_call, row_call_of, close_call, drain_call_of}
 use Rattle.dock.specs.declared.Record.{Record}
 use Rattle.dock.specs.declared.Reply.{Reply}
 use Rattle.dock.specs.declared.Told.{Told}
@@ -22,12 +25,7 @@ draining_byte = 1
 abbrev pub over_byte : ℕ
 over_byte = 2
 
--- the phase as a byte
-unfoldable pub number_of : Phase → ℕ
-number_of Reading = reading_byte
-number_of Draining = draining_byte
-number_of Over = over_byte
-
+-- the phase of a byte; the byte of a phase is `byte_of`
 unfoldable pub phase_for : ℕ → Phase
 phase_for n = cond (eqb n reading_byte) Reading (cond (eqb n draining_byte) Draining Over)
 
@@ -36,10 +34,24 @@ abbrev pub run_of : Record → Run
 run_of d = record { look = d.look; kept = d.kept; rows = d.rows; phase = phase_for d.phase; done = d.done }
 
 abbrev pub record_of : Run → Record
-record_of r = record { look = r.look; kept = r.kept; rows = r.rows; done = r.done; phase = number_of r.phase }
+record_of r = record { look = r.look; kept = r.kept; rows = r.rows; done = r.done; phase = byte_of r.phase }
 
 abbrev pub reply_for : Answer → Reply
 reply_for a = record { held = record_of a.run; told = record { number = a.number; place = a.place; count = a.count } }
+
+-- what comes of a run's call is told so, and its answer is replied so; a record is one of a run where its byte is a phase
+abbrev pub told_for : Result ℕ Refusal → Told
+told_for (Ok count) = record { number = accepted; place = 0; count = count }
+told_for (Err e) = record { number = number_for e.fault; place = e.place; count = 0 }
+
+abbrev pub Tells : Result ℕ Refusal → Told → Type 0
+Tells o t = t ≡ told_for o
+
+abbrev pub Replies : code.Answer → Reply → Type 0
+Replies a r = r ≡ reply_for (answered a)
+
+abbrev pub IsRun : Record → Option Run → Type 0
+IsRun d r = MatchOption r (over_byte < d.phase) (λ run. (d.phase ≤ over_byte) × (run ≡ run_of d))
 
 -- what an entry leaves: the record and what is told, the store, the output
 pub record Left : Type 0 where

@@ -6,18 +6,11 @@
 ghost use Rattle.std.specs.Prelude.{◌≡◌, []};
 ghost use Rattle.announce.specs.Announced.{announced};
 ghost use Rattle.announce.specs.Conditions.{Answers};
-ghost use Rattle.dock.specs.Lent.{phase_for, number_of, run_of, reply_for, strange_reply, lent_open, lent_row, lent_close, lent_drain, Gives, Lends};
+ghost use Rattle.dock.specs.Lent.{Tells, Replies, IsRun, strange_reply, lent_open, lent_row, lent_close, lent_drain, written_back, Gives, Lends};
 
 use announce::Checked;
 use limits::{Refusal, STREAMS_MOST};
 use monitor::{Answer, Phase, Run};
-
-// The phases' bytes. No byte above the last one is a phase.
-const READING: u8 = 0;
-
-const DRAINING: u8 = 1;
-
-const OVER: u8 = 2;
 
 // The record as C lays it out: `monitor::Run` with its phase as a byte.
 #[repr(C)]
@@ -46,8 +39,30 @@ pub struct Reply {
     pub told: Told,
 }
 
+// What came of a run's call.
+impl From<Result<usize, Refusal>> for Told {
+    ghost from_gives = { Tells };
+
+    fn from(outcome: Result<usize, Refusal>) -> Told {
+        match outcome {
+            Ok(count) => Told {
+                number: limits::ACCEPTED,
+                place: 0,
+                count,
+            },
+            Err(refusal) => Told {
+                number: u8::from(refusal.fault),
+                place: refusal.place,
+                count: 0,
+            },
+        }
+    }
+}
+
 // The answer of a run's call, its record as C lays it out.
 impl From<Answer> for Reply {
+    ghost from_gives = { Replies };
+
     fn from(answer: Answer) -> Reply {
         let run = answer.run;
         let look = run.look;
@@ -57,17 +72,11 @@ impl From<Answer> for Reply {
             kept,
             rows: run.rows,
             done: run.done,
-            phase: run.phase as u8,
+            phase: u8::from(run.phase),
         };
-        Reply { held, told: Told::from(answer.outcome) }
-    }
-}
-
-impl From<Result<usize, Refusal>> for Told {
-    fn from(outcome: Result<usize, Refusal>) -> Told {
-        match outcome {
-            Ok(count) => Told { number: limits::ACCEPTED, place: 0, count },
-            Err(refusal) => Told { number: u8::from(refusal.fault), place: refusal.place, count: 0 },
+        Reply {
+            held,
+            told: Told::from(answer.outcome),
         }
     }
 }
@@ -75,8 +84,11 @@ impl From<Result<usize, Refusal>> for Told {
 // The calls by value over this record: the run's own, where the byte is a phase.
 impl Record {
     fn run(self) -> Option<Run>
+        ensures { IsRun self result }
     {
-        let Ok(phase) = Phase::try_from(self.phase) else { return None; };
+        let Ok(phase) = Phase::try_from(self.phase) else {
+            return None;
+        };
         let look = self.look;
         let kept = self.kept;
         Some(Run {
@@ -92,7 +104,10 @@ impl Record {
     fn strange(self, table: &[u8]) -> Reply
         ensures { result ≡ strange_reply table.now self }
     {
-        Reply { held: self, told: Told::from(Err(monitor::foreign(table))) }
+        Reply {
+            held: self,
+            told: Told::from(Err(monitor::foreign(table))),
+        }
     }
 
     fn row(self, table: &[u8], store: &mut [u32], row: &[u32], out: &mut [u8]) -> Reply
@@ -156,6 +171,16 @@ pub extern "C" fn glasspuddle_open(record: &mut Record, table: &[u8], store: &mu
     reply.told
 }
 
+// Writes back what a call of an open run may change.
+fn hand_back(record: &mut Record, reply: Reply) -> Told
+    ensures { («record».new ≡ written_back «record».old reply.held) × (result ≡ reply.told) }
+{
+    record.rows = reply.held.rows;
+    record.done = reply.held.done;
+    record.phase = reply.held.phase;
+    reply.told
+}
+
 // Takes a row: "A row call is turn j, for the j-th accepted row, counted from 0."
 #[unsafe(no_mangle)]
 pub extern "C" fn glasspuddle_row(
@@ -169,11 +194,7 @@ pub extern "C" fn glasspuddle_row(
         «record».new result store.new out.new }
 {
     let held = *record;
-    let reply = held.row(table, store, row, out);
-    record.rows = reply.held.rows;
-    record.done = reply.held.done;
-    record.phase = reply.held.phase;
-    reply.told
+    hand_back(record, held.row(table, store, row, out))
 }
 
 // Closes the run: "Closing fixes N".
@@ -182,11 +203,7 @@ pub extern "C" fn glasspuddle_close(record: &mut Record, table: &[u8]) -> Told
     ensures { Lends (lent_close table.now «record».old) «record».new result [] [] }
 {
     let held = *record;
-    let reply = held.close(table);
-    record.rows = reply.held.rows;
-    record.done = reply.held.done;
-    record.phase = reply.held.phase;
-    reply.told
+    hand_back(record, held.close(table))
 }
 
 // A closing turn: "draining calls are turns N, N+1 and so on".
@@ -201,9 +218,5 @@ pub extern "C" fn glasspuddle_drain(
         «record».new result store.new out.new }
 {
     let held = *record;
-    let reply = held.drain(table, store, out);
-    record.rows = reply.held.rows;
-    record.done = reply.held.done;
-    record.phase = reply.held.phase;
-    reply.told
+    hand_back(record, held.drain(table, store, out))
 }

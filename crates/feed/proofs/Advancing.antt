@@ -12,32 +12,30 @@ use Rattle.lines.proofs.Lengths.{wrote_within}
 use Rattle.announce.specs.Announced.{announced}
 use Rattle.prepare.specs.PlanFor.{table_for}
 use Rattle.monitor.specs.declared.Run.{Run}
-use Rattle.monitor.specs.declared.Answer.{Answer}
+use Rattle.monitor.specs.Calls.{Answer}
 use Rattle.monitor.specs.Calls.{open_call, Opens}
-use Rattle.answers.specs.Rows.{begun, after_rows, Reached, Taken}
-use Rattle.feed.specs.declared.Head.TheVariants.{Stopped, Refused, Table as Tabled}
+use Rattle.answers.specs.Rows.{begun, after_rows, Reached, Taken, Answered}
+use Rattle.feed.specs.Head.{Stopped, Refused, Table as Tabled}
 use Rattle.feed.specs.declared.Stage.TheVariants.{Head, Table, Rows, Shut}
-use Rattle.feed.specs.declared.Advance.{Advance}
 use Rattle.feed.specs.Head.{input_head}
 use Rattle.feed.specs.Printed.{printed}
-use Rattle.feed.specs.Stands.{AtHead, AtTable, Held, advanced_to, FromHead, FromTable, FromRows}
+use Rattle.feed.specs.Stands.{AtHead, AtTable, Held, FromHead, FromTable, FromRows}
 use Rattle.feed.proofs.Stages.{head_bytes, head_more, head_table, table_whole, whole_long, table_opened, part_whole, rows_whole}
 use Rattle.feed.proofs.Texts.{printed_refused, printed_table}
 use Rattle.feed.proofs.Inputs.{opened_number, opened_place, some_input}
 
 -- ---- the head
 
-module _ {part piece part1 : List ℕ} {have : ℕ} (h : Held part have piece 1 part1) {run : Run} {read : ℕ} {r : Advance} where
-  pub head_stopped : {text1 : List ℕ} → input_head (take (have + 1) part1) ≡ Stopped → r ≡ advanced_to (Head (have + 1)) run read 1 0 → FromHead part have read piece r part1 text1
-  head_stopped e q table store = rw q (record { some = omega arith; within = h.within; fits = omega arith; read_is = refl; onward = λ b said x. head_more x h e })
+module _ {part piece part1 : List ℕ} {have : ℕ} (h : Held part have piece 1 part1) where
+  pub head_stopped : {text1 : List ℕ} → input_head (take (have + 1) part1) ≡ Stopped → FromHead part have piece (record { stage = Head (have + 1); used = 1; at = 0 }) part1 text1
+  head_stopped e table store = record { some = omega arith; within = h.within; fits = omega arith; onward = λ b said x. head_more x h e }
 
-  pub head_tabled : {text1 : List ℕ} {n : ℕ} → input_head (take (have + 1) part1) ≡ Tabled n → r ≡ advanced_to (Table n 0) run read 1 0 → FromHead part have read piece r part1 text1
-  head_tabled e q table store = rw q (record { some = omega arith; within = h.within; fits = omega arith; read_is = refl; onward = λ b said x. head_table x h table e })
+  pub head_tabled : {text1 : List ℕ} {n : ℕ} → input_head (take (have + 1) part1) ≡ Tabled n → FromHead part have piece (record { stage = Table n 0; used = 1; at = 0 }) part1 text1
+  head_tabled e table store = record { some = omega arith; within = h.within; fits = omega arith; onward = λ b said x. head_table x h table e }
 
-  pub head_refused : {text text1 : List ℕ} {k p at : ℕ} → input_head (take (have + 1) part1) ≡ Refused k p → Wrote text 0 (refusal_line k p) text1 at → r ≡ advanced_to Shut run read 1 at
-      → FromHead part have read piece r part1 text1
-  head_refused {text} {text1} {k} {p} {at} e w q table store =
-      rw q (record { some = omega arith; within = h.within; fits = wrote_within (omega arith) w; read_is = refl; onward = shut })
+  pub head_refused : {text text1 : List ℕ} {k p at : ℕ} → input_head (take (have + 1) part1) ≡ Refused k p → Wrote text 0 (refusal_line k p) text1 at
+      → FromHead part have piece (record { stage = Shut; used = 1; at = at }) part1 text1
+  head_refused {text} {text1} {k} {p} {at} e w table store = record { some = omega arith; within = h.within; fits = wrote_within (omega arith) w; onward = shut }
     where
       shut : (b said : List ℕ) → AtHead b part have said → (more : List ℕ) → printed ((b ++ take 1 piece) ++ more) ≡ said ++ take at text1
       shut b said x more =
@@ -45,12 +43,11 @@ module _ {part piece part1 : List ℕ} {have : ℕ} (h : Held part have piece 1 
 
 -- ---- the table
 
-module _ {table piece table1 : List ℕ} {n have m : ℕ} (h : Held table have piece m table1) (some : 0 < m) {read : ℕ} {r : Advance} where
+module _ {table piece table1 : List ℕ} {n have m : ℕ} (h : Held table have piece m table1) (some : 0 < m) where
   module _ (whole : have + m ≡ n) (store : List ℕ) (long : length store ≡ most_words) {a : Answer} {store1 : List ℕ} (o : Opens (open_call (take n table1) store) a store1) where
-    pub table_refused : {run : Run} {text text1 : List ℕ} {at : ℕ} → (a.number ≡ 0 → ⊥) → Wrote text 0 (refusal_line a.number a.place) text1 at → r ≡ advanced_to Shut run read m at
-        → FromTable table n have read piece r table1 store1 text1
-    table_refused {run} {text} {text1} {at} f w q part =
-        rw q (record { some = some; within = h.within; fits = wrote_within (omega arith) w; read_is = refl; onward = shut })
+    pub table_refused : {text text1 : List ℕ} {at : ℕ} → (a.number ≡ 0 → ⊥) → Wrote text 0 (refusal_line a.number a.place) text1 at
+        → FromTable table n have piece (record { stage = Shut; used = m; at = at }) table1 store1 text1
+    table_refused {text} {text1} {at} f w part = record { some = some; within = h.within; fits = wrote_within (omega arith) w; onward = shut }
       where
         shut : (b said : List ℕ) → AtTable b table n have said → (more : List ℕ) → printed ((b ++ take m piece) ++ more) ≡ said ++ take at text1
         shut b said x more =
@@ -58,10 +55,10 @@ module _ {table piece table1 : List ℕ} {n have m : ℕ} (h : Held table have p
             ∙ printed_table x.head x.head_is x.head_long (take n table1) more (whole_long x h whole) (λ e. f (opened_number (take n table1) store long o ∙ e))
             ∙ rw (← opened_number (take n table1) store long o, ← opened_place (take n table1) store long o f) (sym w.front) ∙ ap (λ (l : List ℕ). l ++ take at text1) (sym x.silent)
 
-    pub table_taken : {text1 : List ℕ} → a.number ≡ 0 → r ≡ advanced_to (Rows n 0) a.run read m 0 → FromTable table n have read piece r table1 store1 text1
-    table_taken f q part =
+    pub table_taken : {text1 : List ℕ} → a.number ≡ 0 → FromTable table n have piece (record { stage = Rows n 0 a.run; used = m; at = 0 }) table1 store1 text1
+    table_taken f part =
         let acc : (announced (take n table1)).number ≡ 0 = sym (opened_number (take n table1) store long o) ∙ f in
-        rw q (record { some = some; within = h.within; fits = omega arith; read_is = refl; onward = λ b said x. table_opened x h whole part store long acc (some_input (take n table1) acc) o })
+        record { some = some; within = h.within; fits = omega arith; onward = λ b said x. table_opened x h whole part store long acc (some_input (take n table1) acc) o }
 
 -- ---- rows
 
@@ -76,22 +73,20 @@ one_row {inputs = inputs} {k = suc zero} t e = refl
 one_row {inputs = inputs} {k = suc (suc k)} t e =
     absurd (omega (arith, some_row t (omega arith), t.whole, t.used_is, e, suc-mul (suc k) (4 * inputs), suc-mul k (4 * inputs)))
 
-module _ {part piece part1 : List ℕ} {have m : ℕ} (h : Held part have piece m part1) (some : 0 < m) {table : List ℕ} {n : ℕ} {store : List ℕ} {run : Run} {read : ℕ} {r : Advance} where
-  pub row_taken : {run1 : Run} {store1 text text1 : List ℕ} {inputs row k used at : ℕ} → inputs ≡ (table_for (take n table)).inputs → row ≡ 4 * inputs → have + m ≡ row
-      → length (take row part1) ≡ row → Taken (take row part1) inputs k used
-      → Reached (after_rows (take n table) (take row part1) inputs k (begun run store)) run1 store1 text 0 text1 at
-      → r ≡ advanced_to (Rows n 0) run1 read m at → FromRows run table store part n have read piece r store1 part1 text1
-  row_taken {run1} {store1} {text} {text1} {inputs} {row} {k} {used} {at} i e w c t g q =
-      let one : k ≡ 1 = one_row t (c ∙ e) in
+module _ {part piece part1 : List ℕ} {have m : ℕ} (h : Held part have piece m part1) (some : 0 < m) {table : List ℕ} {n : ℕ} {store : List ℕ} {run : Run} where
+  pub row_taken : {run1 : Run} {store1 text text1 : List ℕ} {inputs row used at : ℕ} → inputs ≡ (table_for (take n table)).inputs → row ≡ 4 * inputs → have + m ≡ row
+      → length (take row part1) ≡ row → Answered (take n table) (take row part1) inputs (begun run store) run1 store1 text text1 used at
+      → FromRows run table store part n have piece (record { stage = Rows n 0 run1; used = m; at = at }) store1 part1 text1
+  row_taken {run1} {store1} {text} {text1} {inputs} {row} {used} {at} i e w c g =
+      let one : g.rows ≡ 1 = one_row g.taken (c ∙ e) in
       let f : Reached (after_rows (take n table) (take (have + m) part1) (table_for (take n table)).inputs 1 (begun run store)) run1 store1 text 0 text1 at =
-      rw (w, ← i, ← one) g in
-      rw q (record { some = some; within = h.within; fits = wrote_within (omega arith) g.wrote; read_is = refl; onward = λ b said x. part_whole x h (w ∙ e ∙ ap (λ (j : ℕ). 4 * j) i) f })
+      rw (w, ← i, ← one) g.reached in
+      record { some = some; within = h.within; fits = wrote_within (omega arith) g.reached.wrote; onward = λ b said x. part_whole x h (w ∙ e ∙ ap (λ (j : ℕ). 4 * j) i) f }
 
-pub rows_taken : {table piece part : List ℕ} {n have read : ℕ} {run run1 : Run} {store store1 text text1 : List ℕ} {inputs k used at : ℕ} {r : Advance} → have ≡ 0 → inputs ≡ (table_for (take n table)).inputs
-    → 4 * inputs ≤ length piece → Taken piece inputs k used
-    → Reached (after_rows (take n table) piece inputs k (begun run store)) run1 store1 text 0 text1 at
-    → r ≡ advanced_to (Rows n 0) run1 read used at → FromRows run table store part n have read piece r store1 part text1
-rows_taken {k = k} {used = used} z i l t g q =
-    let u = rw i at t in
-    let f = rw i at g in
-    rw (q, z) (record { some = some_row t l; within = t.whole; fits = wrote_within (omega arith) g.wrote; read_is = refl; onward = λ b said x. rows_whole x k used u f })
+pub rows_taken : {table piece part : List ℕ} {n have : ℕ} {run run1 : Run} {store store1 text text1 : List ℕ} {inputs used at : ℕ} → have ≡ 0 → inputs ≡ (table_for (take n table)).inputs
+    → 4 * inputs ≤ length piece → Answered (take n table) piece inputs (begun run store) run1 store1 text text1 used at
+    → FromRows run table store part n have piece (record { stage = Rows n 0 run1; used = used; at = at }) store1 part text1
+rows_taken {used = used} z i l g =
+    let u = rw i at g.taken in
+    let f = rw i at g.reached in
+    rw z (record { some = some_row g.taken l; within = g.taken.whole; fits = wrote_within (omega arith) g.reached.wrote; onward = λ b said x. rows_whole x g.rows used u f })

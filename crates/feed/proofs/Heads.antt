@@ -9,8 +9,8 @@ use lib.ListN.{length, get_or}
 use borrow.Author.Tests.{eq-eqb, ne_eqb, lt-ltb, le-ltb}
 use Rattle.limits.specs.Limits.{most_table}
 use Rattle.limits.specs.Refusals.{table_length, wrong_kind}
-use Rattle.feed.specs.declared.Head.{Head}
-use Rattle.feed.specs.declared.Head.TheVariants.{Stopped, Refused, Table}
+use Rattle.feed.specs.Head.{Head}
+use Rattle.feed.specs.Head.{Stopped, Refused, Table}
 use Rattle.feed.specs.Head.{kind_table_of, head_size, input_head, length_of}
 
 module _ (s : List ℕ) where

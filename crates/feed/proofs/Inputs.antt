@@ -18,7 +18,7 @@ use Rattle.table.proofs.Sound.{sound}
 use Rattle.announce.specs.Announced.{announced}
 use Rattle.prepare.specs.PlanFor.{table_in, table_for}
 use Rattle.prepare.proofs.Announcing.{accepting}
-use Rattle.monitor.specs.declared.Answer.{Answer}
+use Rattle.monitor.specs.Calls.{Answer}
 use Rattle.monitor.specs.Refusals.{fault, open_fault}
 use Rattle.monitor.specs.Calls.{Opens, open_call}
 use Rattle.monitor.proofs.Refusals.{table_passed, table_refused}

@@ -3,14 +3,16 @@ use Prim.Native.Nat.{ℕ}
 use mathlib.Core.Path.{◌≡◌, refl, sym, ap, subst, ◌∙◌}
 use mathlib.Core.Bool.{Bool, true, false}
 use mathlib.Core.List.{List, [], ◌∷◌, ◌++◌, append_assoc, append-nil}
+use Rattle.std.specs.Prelude.{Option, Some, None}
 use lib.ListN.{take, drop, take-append-drop}
 use Rattle.basis.proofs.Tests.{true_false}
 use Rattle.feed.specs.declared.Stage.{Stage}
 use Rattle.feed.specs.declared.Stage.TheVariants.{Head, Table, Rows, Shut}
 use Rattle.feed.specs.declared.State.{State}
-use Rattle.feed.specs.declared.Ending.{Ending}
+use Rattle.feed.specs.declared.Turning.{Turning}
 use Rattle.feed.specs.Printed.{printed}
 use Rattle.feed.specs.Stands.{StandsAt, reading, Stands, Ends}
+use Rattle.feed.proofs.Stepping.{left_none}
 use Rattle.feed.specs.Program.{joined, Reads, begun, read, step, Writes, ended, finished, PROGRAM}
 
 joined_more : (ps : List (List ℕ)) (p : List ℕ) → joined (ps ++ (p ∷ [])) ≡ joined ps ++ p
@@ -39,37 +41,37 @@ taken (step {rest = rest} r {r = a} s) =
     }
 
 -- in which stage nothing is read
-at_end_lem : {b : List ℕ} {x : State} {table store part said : List ℕ} → Stands b x table store part said → reading x.stage ≡ false → (more : List ℕ) → printed (b ++ more) ≡ said
+pub at_end_lem : {b : List ℕ} {x : State} {table store part said : List ℕ} → Stands b x table store part said → reading x.stage ≡ false → (more : List ℕ) → printed (b ++ more) ≡ said
 unfolding reading
 at_end_lem {b} {x} {table} {store} {part} {said} s = go x.stage s.at
   where
-    go : (stage : Stage) → StandsAt stage b x.run table store part said → reading stage ≡ false → (more : List ℕ) → printed (b ++ more) ≡ said
+    go : (stage : Stage) → StandsAt stage b table store part said → reading stage ≡ false → (more : List ℕ) → printed (b ++ more) ≡ said
     go (Head have) s e = true_false refl e
     go (Table n have) s e = true_false refl e
-    go (Rows n have) s e = true_false refl e
+    go (Rows n have run) s e = true_false refl e
     go Shut s e = s
 
-written : {reads : List (List ℕ)} {x : Ending} {table store said : List ℕ} → Writes reads x table store said → Ends (joined reads) x table store said
+written : {reads : List (List ℕ)} {x : Option Turning} {table store said : List ℕ} → Writes reads x table store said → Ends (joined reads) x table store said
 written (ended {reads = reads} {rest} {x} {table} {store} {part} {said} r whole {r = a} {text1} e) = by (reading x.stage) refl
   where
     t : Taken reads rest x table store part said
     t = taken r
 
-    by : (b : Bool) → reading x.stage ≡ b → Ends (joined reads) a.ending table store (said ++ take a.at text1)
+    by : (b : Bool) → reading x.stage ≡ b → Ends (joined reads) a.left table store (said ++ take a.at text1)
     by true g =
-        subst (λ (l : List ℕ). Ends l a.ending table store (said ++ take a.at text1))
+        subst (λ (l : List ℕ). Ends l a.left table store (said ++ take a.at text1))
         (sym (append-nil t.bytes) ∙ ap (λ (l : List ℕ). t.bytes ++ l) (sym (whole g)) ∙ t.all) ((e.prints store part).onward t.bytes said t.stands)
     by false g =
         let s = e.shut g in
         record {
           over = λ _ _. ap printed (sym t.all) ∙ at_end_lem t.stands g rest ∙ sym (append-nil said) ∙ ap (λ (n : ℕ). said ++ take n text1) (sym s.1);
-          closing = λ z. true_false s.0 z;
+          closing = λ z. left_none (sym s.0 ∙ z);
         }
-written (finished w o f) = f.prints.onward _ _ (written w)
+written (finished w f) = f.prints.onward _ _ ((written w).closing refl)
 
 pub program : PROGRAM
 program = record {
-  whole = λ w o b. sym ((written w).over o b);
+  whole = λ w b. sym ((written w).over refl b);
   shut = λ {rest = rest} r e more. let t = taken r in
       sym (at_end_lem t.stands e (rest ++ more)) ∙ ap printed (sym (append_assoc t.bytes rest more) ∙ ap (λ (l : List ℕ). l ++ more) t.all);
 }

@@ -24,7 +24,7 @@ use Rattle.meaning.specs.Plans.{FitsIn}
 use Rattle.prepare.specs.PlanFor.{table_for, plan_for, first_bad_of}
 use Rattle.prepare.proofs.Accepted.{plan_announced}
 use Rattle.monitor.specs.declared.Run.{Run}
-use Rattle.monitor.specs.declared.Fault.{Fault}
+use Rattle.monitor.specs.Refusals.{Fault}
 use Rattle.monitor.specs.declared.Phase.TheVariants.{Reading}
 use Rattle.monitor.specs.Refusals as monitor
 use Rattle.monitor.specs.Refusals.{fine, refuse_if, record_agrees_of, phase_agrees, of_table_of, is_reading_of, row_fault_of}

@@ -11,11 +11,11 @@ use Rattle.basis.specs.Written.{Wrote}
 use Rattle.announce.specs.Announced.{announced}
 use Rattle.prepare.specs.PlanFor.{table_for}
 use Rattle.monitor.specs.declared.Run.{Run}
-use Rattle.monitor.specs.declared.Answer.{Answer}
+use Rattle.monitor.specs.Calls.{Answer}
 use Rattle.monitor.specs.Calls.{open_call, Opens}
 use Rattle.answers.specs.Rows.{Progress, begun, after_row, after_rows, Reached, Taken}
 use Rattle.answers.proofs.Pieces.{front_rows, rows_in_pieces}
-use Rattle.feed.specs.declared.Head.TheVariants.{Stopped, Table as Tabled}
+use Rattle.feed.specs.Head.{Stopped, Table as Tabled}
 use Rattle.feed.specs.Head.{input_head}
 use Rattle.feed.specs.Printed.{row_size}
 use Rattle.feed.specs.Stands.{AtHead, AtTable, Behind, come, AtRows, Held}

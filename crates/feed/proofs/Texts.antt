@@ -10,7 +10,7 @@ use lib.ListN.{length, get_or, length-append, get_or-append}
 use lib.Seq.{take_at, drop_at, drop-append-add}
 use Rattle.lines.specs.Lines.{refusal_line, stop_line}
 use Rattle.announce.specs.Announced.{announced}
-use Rattle.feed.specs.declared.Head.TheVariants.{Stopped, Refused, Table as Tabled}
+use Rattle.feed.specs.Head.{Stopped, Refused, Table as Tabled}
 use Rattle.feed.specs.Head.{kind_table_of, head_size, input_head}
 use Rattle.feed.specs.Printed.{run_text, table_text, head_text, printed}
 use Rattle.feed.proofs.Heads.{head_empty, head_other, head_short, head_whole}

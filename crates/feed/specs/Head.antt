@@ -1,10 +1,22 @@
 -- The head of the input (document 01, "The program").
 -- Assumes nothing.
-use Rattle.std.specs.Prelude.{ℕ, ◌+◌, ◌*◌, cond, List, eqb, ltb, length, get_or}
+use Rattle.std.specs.Prelude.{ℕ, ◌+◌, ◌*◌, cond, List, eqb, ltb, length, get_or, Option, Some, None, Result, Ok, Err}
 use Rattle.limits.specs.Limits.{most_table}
 use Rattle.limits.specs.Refusals.{table_length, wrong_kind}
-use Rattle.feed.specs.declared.Head.{Head}
-use Rattle.feed.specs.declared.Head.TheVariants.{Stopped, Refused, Table}
+use Rattle.limits.specs.declared.Refusal.{Refusal}
+use Rattle.monitor.specs.Refusals.{told}
+
+-- what the bytes of the head say: the input stops in them, a refusal with its place, or the table's length
+pub data Head : Type 0 where
+  Stopped : Head
+  Refused : (number place : ℕ) → Head
+  Table : (length : ℕ) → Head
+
+-- the same by what the code has for it
+abbrev pub head_as : Result (Option ℕ) Refusal → Head
+head_as (Ok None) = Stopped
+head_as (Ok (Some n)) = Table n
+head_as (Err e) = Refused (told e).number (told e).place
 
 -- "kind byte 60, two bytes of table length"
 abbrev pub kind_table_of : ℕ

@@ -14,12 +14,12 @@ use Rattle.lola.specs.Models.{model_of, trace}
 use Rattle.run.specs.Run.{owed}
 use Rattle.meaning.specs.Tables.{spec_of, read_in}
 use Rattle.prepare.specs.PlanFor.{table_for, look_for, plan_for, first_bad_of}
-use Rattle.monitor.specs.declared.Fault.{Fault}
+use Rattle.monitor.specs.Refusals.{Fault}
 use Rattle.monitor.specs.Refusals.{fine, refuse_if}
 use Rattle.monitor.specs.Turns.{in_words}
 use Rattle.answers.specs.Words.{words_at}
-use Rattle.feed.specs.declared.Head.{Head}
-use Rattle.feed.specs.declared.Head.TheVariants.{Stopped, Refused, Table as Tabled}
+use Rattle.feed.specs.Head.{Head}
+use Rattle.feed.specs.Head.{Stopped, Refused, Table as Tabled}
 use Rattle.feed.specs.Head.{head_size, input_head}
 
 -- ---- rows

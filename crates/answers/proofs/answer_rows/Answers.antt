@@ -1,23 +1,17 @@
 -- No row, one row more, and that some row is taken where one is there. Assumes nothing.
-use borrow.Author.Rules.{rules}
-use borrow.Author.Tests.{leb-false}
 use native.Mathlib.Omega.{arith}
-use mathlib.Core.Path.{refl}
-use Rattle.answers.proofs.Turns.{rows_none, rows_more, rows_silent}
+use mathlib.Core.Path.{◌∙◌}
+use Rattle.answers.proofs.Turns.{rows_none, rows_more, rows_silent, rows_done}
 use Rattle.answers.proofs.answer_rows.Goals as goal
 
-pub loop-used-init : goal.loop-used-init
-loop-used-init c = (rows_none _ _ _ _ _ _, refl, refl)
+pub loop-row-init : goal.loop-row-init
+loop-row-init c = rw (c.into_iter-row-iterator.ensures.into_iter_gives, c.chunks_exact-row-items.ensures.rest) (rows_none _ _ _ _ _ _, c.chunks_exact-row-items.ensures.size)
 
-pub loop-used-preserved : goal.loop-used-preserved
-loop-used-preserved c = (rows_more c.loop-used.invariant.0 (omega arith) (omega (arith, c.loop-used-test.true, c.loop-used.invariant.0.whole)) c.answer_row-turned.ensures, c.loop-used.invariant.1, search rules)
+pub loop-row-preserved : goal.loop-row-preserved
+loop-row-preserved c = let s = c.in-Some.ensures.steps in (rows_more c.loop-row.invariant.0 _ (omega (arith, c.requires)) s.1.0 (s.1.1 ∙ c.loop-row.invariant.1) c.answer_row-turned.ensures, s.0 ∙ c.loop-row.invariant.1)
 
-pub returns-else-text-at-ge-TEXT_MOST : goal.returns-else-text-at-ge-TEXT_MOST
-returns-else-text-at-ge-TEXT_MOST c = record {
-  reached = c.loop-used.invariant.0.reached;
-  taken = record {
-    used_is = c.loop-used.invariant.0.used_is;
-    whole = c.loop-used.invariant.0.whole;
-    some = λ h. omega (arith, leb-false, rows_silent c.loop-used.invariant.0 h, c.loop-used.invariant.0.reached.wrote.size);
-  };
-}
+pub returns-in-None : goal.returns-in-None
+returns-in-None c = rows_done c.loop-row.invariant.0 (λ z. omega (arith, c.in-None.ensures.steps.1.0, c.loop-row.invariant.1))
+
+pub returns-then-text-at-lt-TEXT_MOST : goal.returns-then-text-at-lt-TEXT_MOST
+returns-then-text-at-lt-TEXT_MOST c = rows_done c.loop-row.invariant.0 (λ z. absurd (omega (arith, c.requires, c.if-text-at-lt-TEXT_MOST.true, rows_silent c.loop-row.invariant.0 z, c.loop-row.invariant.0.reached.wrote.size)))

@@ -1,19 +1,22 @@
 -- No turn, one turn more, and that some turn is taken where one is left. Assumes nothing.
-use borrow.Author.Rules.{rules}
 use borrow.Author.Tests.{leb-false}
 use native.Mathlib.Omega.{arith}
 use mathlib.Core.Path.{refl, sym, ◌∙◌}
-use Rattle.answers.proofs.Turns.{drains_none, drains_more, going_none, going_more, drains_silent, drains_left}
+use Rattle.answers.proofs.Phases.{draining_test}
+use Rattle.answers.proofs.Turns.{going_none, going_more, drained_all, drained_room, drain_falls}
 use Rattle.answers.proofs.drain_turns.Goals as goal
 
-pub loop-turns-init : goal.loop-turns-init
-loop-turns-init c = (drains_none _ _ _ _, omega arith, refl, going_none _ _)
+pub loop-latest-init : goal.loop-latest-init
+loop-latest-init c = going_none _ _ _ _
 
-pub loop-turns-preserved : goal.loop-turns-preserved
-loop-turns-preserved c = (drains_more _ _ _ c.loop-turns.invariant.0 c.drain_turn-turned.ensures, omega arith, search rules, going_more c.loop-turns.invariant.3 c.loop-turns.invariant.0 (sym c.is_draining.ensures ∙ c.if-is_draining.true))
+pub loop-latest-preserved : goal.loop-latest-preserved
+loop-latest-preserved c = going_more c.loop-latest.invariant (sym (draining_test _) ∙ sym c.eq.ensures ∙ c.loop-latest-test.true) c.drain_turn-turned.ensures
 
-pub returns-else-is_draining : goal.returns-else-is_draining
-returns-else-is_draining c = record { reached = c.loop-turns.invariant.0; drains = record { each = c.loop-turns.invariant.3.each; some = λ z. drains_left _ _ _ c.loop-turns.invariant.0 (sym c.is_draining.ensures ∙ c.if-is_draining.false) z } }
+pub loop-latest-smaller : goal.loop-latest-smaller
+loop-latest-smaller c = drain_falls _ _ _ (omega (arith, c.if-text-at-ge-TEXT_MOST.true)) c.drain_turn-turned.ensures
+
+pub returns-after-loop-latest : goal.returns-after-loop-latest
+returns-after-loop-latest c = drained_all c.loop-latest.invariant (sym (draining_test _) ∙ sym c.eq.ensures ∙ c.loop-latest-test.false)
 
 pub returns-else-text-at-ge-TEXT_MOST : goal.returns-else-text-at-ge-TEXT_MOST
-returns-else-text-at-ge-TEXT_MOST c = record { reached = c.loop-turns.invariant.0; drains = record { each = c.loop-turns.invariant.3.each; some = λ z. absurd (omega (arith, leb-false, drains_silent _ _ _ refl c.loop-turns.invariant.0 z, c.loop-turns.invariant.0.wrote.size)) } }
+returns-else-text-at-ge-TEXT_MOST c = drained_room c.loop-latest.invariant refl c.requires (omega (arith, leb-false, c.if-text-at-ge-TEXT_MOST.false))

@@ -1,14 +1,14 @@
--- The loop's invariant: so many closing turns are done. The measure is what is left of the bound on their number.
+-- The loop's invariant: some closing turns are done. The measure is how many are left, and how much of the text.
 -- Assumes nothing.
-use Prim.Native.Nat.{◌≤◌, ◌-◌}
-use mathlib.Core.Path.{◌≡◌}
+use Prim.Native.Nat.{◌+◌, ◌-◌}
 use lib.ListN.{length}
-use Rattle.answers.specs.Rows.{begun, after_drains, Reached}
+use Rattle.announce.specs.Announced.{announced}
+use Rattle.answers.specs.Rows.{begun}
 use Rattle.answers.proofs.Turns.{Going}
 use Rattle.answers.proofs.drain_turns.Given as goal
 
-abbrev pub invariant-loop-turns : goal.invariant-loop-turns
-invariant-loop-turns l = Reached (after_drains l.table l.turns (begun l.initial.latest l.initial.store)) l.latest l.store l.initial.text 0 l.text l.at × (l.turns ≤ 65536) × (length l.store ≡ length l.initial.store) × Going l.table l.turns (begun l.initial.latest l.initial.store)
+abbrev pub invariant-loop-latest : goal.invariant-loop-latest
+invariant-loop-latest l = Going l.table (begun l.initial.latest l.initial.store) l.latest l.store l.initial.text l.text l.at
 
-abbrev pub decreases-loop-turns : goal.decreases-loop-turns
-decreases-loop-turns l = 65536 - l.turns
+abbrev pub decreases-loop-latest : goal.decreases-loop-latest
+decreases-loop-latest l = ((announced l.table).closing - l.latest.done) + (length l.text - l.at)

@@ -4,4 +4,4 @@ use Rattle.dock.proofs.Keeping.{close_keeps, lends_back}
 use Rattle.dock.proofs.glasspuddle_close.Goals as goal
 
 pub returns : goal.returns
-returns c = lends_back c.close-reply.ensures (close_keeps _ _)
+returns c = rw (c.hand_back.ensures.0, c.hand_back.ensures.1) (lends_back c.close.ensures (close_keeps _ _))

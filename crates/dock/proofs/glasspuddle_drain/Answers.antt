@@ -4,4 +4,4 @@ use Rattle.dock.proofs.Keeping.{drain_keeps, lends_back}
 use Rattle.dock.proofs.glasspuddle_drain.Goals as goal
 
 pub returns : goal.returns
-returns c = lends_back c.drain-reply.ensures (drain_keeps _ _ _ _)
+returns c = rw (c.hand_back.ensures.0, c.hand_back.ensures.1) (lends_back c.drain.ensures (drain_keeps _ _ _ _))

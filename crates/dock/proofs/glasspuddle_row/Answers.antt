@@ -4,4 +4,4 @@ use Rattle.dock.proofs.Keeping.{row_keeps, lends_back}
 use Rattle.dock.proofs.glasspuddle_row.Goals as goal
 
 pub returns : goal.returns
-returns c = lends_back c.row-reply.ensures (row_keeps _ _ _ _ _)
+returns c = rw (c.hand_back.ensures.0, c.hand_back.ensures.1) (lends_back c.row.ensures (row_keeps _ _ _ _ _))

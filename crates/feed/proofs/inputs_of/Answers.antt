@@ -8,6 +8,6 @@ pub bounds-table-2 : goal.bounds-table-2
 bounds-table-2 c = omega (arith, accepted_inputs _ c.requires)
 
 pub returns : goal.returns
-returns c = let e = c.byte_size.ensures.0 in
+returns c = let e = c.from.ensures in
     let a = accepted_inputs _ c.requires in
     (e ∙ sym (inputs_first _ c.requires), omega (arith, e, a.1), omega (arith, e, a.2))

@@ -1,19 +1,9 @@
--- A case for each stage. Assumes nothing.
-use Rattle.feed.specs.Stands.{reading}
+-- Shut, or not. Assumes nothing.
+use mathlib.Core.Path.{sym, ap, ◌∙◌}
+use mathlib.Core.Bool.{not}
+use Rattle.feed.proofs.Stepping.{reads_none, reads_some}
+use Rattle.feed.proofs.reads_on.Goals.{in-Shut, in_default}
 use Rattle.feed.proofs.reads_on.Goals as goal
 
-pub returns-in-Head : goal.returns-in-Head
-unfolding reading
-returns-in-Head c = cc
-
-pub returns-in-Table : goal.returns-in-Table
-unfolding reading
-returns-in-Table c = cc
-
-pub returns-in-Rows : goal.returns-in-Rows
-unfolding reading
-returns-in-Rows c = cc
-
-pub returns-in-Shut : goal.returns-in-Shut
-unfolding reading
-returns-in-Shut c = cc
+pub returns : goal.returns
+returns c = elim c.match-matches.branch [ in-Shut w ↦ ap not w.matches-is ∙ sym (reads_none w.in-Shut.is) | in_default w ↦ ap not w.matches-is ∙ sym (reads_some _ w.in_default.not-Shut) ]

@@ -1,7 +1,15 @@
--- Bytes of a part row, or whole rows and their lines. Assumes nothing.
+-- Whole rows and their lines, or a row that its last byte completes. Assumes nothing.
 use native.Mathlib.Omega.{arith}
-use Rattle.feed.proofs.Advancing.{rows_taken}
+use mathlib.Core.Path.{refl}
+use lib.Seq.{length-take-le}
+use Rattle.feed.proofs.Advancing.{row_taken, rows_taken}
 use Rattle.feed.proofs.take_rows.Goals as goal
 
+pub returns-then-row-piece : goal.returns-then-row-piece
+returns-then-row-piece c = rows_taken c.if-have-eq0.true c.inputs_of-inputs.ensures.0 c.if-row-piece.true c.answer_rows-fed.ensures
+
 pub returns : goal.returns
-returns c = rows_taken (omega (arith, c.if-have-gt0.false)) c.inputs_of-inputs.ensures.0 c.if-piece-inputs.false c.answer_rows-fed.ensures.taken c.answer_rows-fed.ensures.reached c.advanced.ensures
+returns c =
+    row_taken c.hold.ensures (omega (arith, c.min-n.ensures, c.requires.2, c.requires.4, c.inputs_of-inputs.ensures.0)) c.inputs_of-inputs.ensures.0 refl
+    (omega (arith, c.min-n.ensures, c.requires.2, c.inputs_of-inputs.ensures.0, c.if-have-n.false))
+    (length-take-le _ _ (omega (arith, c.requires.3, c.inputs_of-inputs.ensures.2))) c.answer_rows-fed-2.ensures

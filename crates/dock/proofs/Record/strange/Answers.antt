@@ -4,4 +4,4 @@ use Rattle.dock.proofs.Giving.{strange_is}
 use Rattle.dock.proofs.Record.strange.Goals as goal
 
 pub returns : goal.returns
-returns c = strange_is _ _ c.foreign-fault.ensures
+returns c = strange_is _ _ c.from.ensures c.foreign.ensures
