@@ -10,14 +10,14 @@ use mathlib.Core.Logic.{⊎_elim}
 use mathlib.Core.List.{List, [], ◌++◌, append_assoc}
 use borrow.Author.Tests.{eqb-true, eqb-false}
 use lib.Dec.{eqb}
-use lib.ListN.{length, take, length-append}
+use lib.ListN.{length, length-append}
 use Rattle.basis.proofs.Tests.{lt_or_eq}
 use Rattle.basis.proofs.Written.{wrote_nothing, then}
 use Rattle.lines.specs.Lines.{refusal_line}
 use Rattle.lines.proofs.Lengths.{wrote_within}
 use Rattle.records.specs.Kinds.{most_text}
 use Rattle.monitor.specs.declared.Run.{Run}
-use Rattle.monitor.specs.Refusals.{Fault, is_draining_of, drain_fault_of}
+use Rattle.monitor.specs.Refusals.{Fault, is_draining_of}
 use Rattle.monitor.proofs.Refusals.{drain_left}
 use Rattle.announce.specs.Announced.{announced}
 use Rattle.monitor.specs.Calls.{After, acceptance, refusal, row_call_of, drain_call_of}

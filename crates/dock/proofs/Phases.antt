@@ -8,7 +8,6 @@ use lib.Dec.{ltb}
 use borrow.Author.Tests.{ltb-false}
 use Rattle.monitor.specs.declared.Phase.{Phase}
 use Rattle.monitor.specs.declared.Phase.TheVariants.{Reading, Draining, Over}
-use Rattle.monitor.specs.declared.Run.{Run}
 use Rattle.monitor.specs.Phases.{byte_of}
 use Rattle.dock.specs.declared.Record.{Record}
 use Rattle.dock.specs.Lent.{over_byte, phase_for, run_of}

@@ -2,7 +2,7 @@
 use Prim.Native.Nat.{ℕ, ◌<◌}
 use native.Mathlib.Omega.{arith}
 use native.Mathlib.Decide.{ℕ_discrete}
-use mathlib.Core.Path.{◌≡◌, refl, sym, ap, ◌∙◌}
+use mathlib.Core.Path.{◌≡◌, sym, ap, ◌∙◌}
 use mathlib.Core.Bool.{true, false}
 use mathlib.Core.List.{List, ◌++◌}
 use Rattle.std.specs.Prelude.{Some, None}
@@ -15,7 +15,6 @@ use Rattle.monitor.specs.declared.Run.{Run}
 use Rattle.monitor.specs.Refusals.{is_draining_of}
 use Rattle.answers.specs.Rows.{begun, Drained}
 use Rattle.feed.specs.declared.Turning.{Turning}
-use Rattle.feed.specs.declared.Ended.{Ended}
 use Rattle.feed.specs.Stands.{AtClosing, Unfinished, Finishes}
 use Rattle.feed.proofs.Closing.{closing_more, done_grows, turn_left}
 use Rattle.feed.proofs.Finished.{finished}

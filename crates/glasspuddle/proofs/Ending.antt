@@ -6,59 +6,60 @@ use Rattle.std.proofs.Math.ListN.{get_or-eq_default}
 use Rattle.std.specs.Io.KnownBytes.{Appends}
 use Rattle.std.proofs.KnownBytes.{Appends-trans}
 use Rattle.wire.specs.Bytes.{AllBytes}
-use Rattle.monitor.specs.declared.Run.{Run}
 use Rattle.feed.specs.declared.Stage.{Stage}
 use Rattle.feed.specs.declared.Stage.TheVariants.{Head, Table, Rows, Shut}
 use Rattle.feed.specs.declared.State.{State}
-use Rattle.feed.specs.declared.Ending.{Ending}
+use Rattle.feed.specs.declared.Turning.{Turning}
 use Rattle.feed.specs.declared.Ended.{Ended}
 use Rattle.feed.specs.Printed.{printed}
-use Rattle.feed.specs.Stands.{StandsAt, reading, Stands, Standing, Ends, Closing, EndsIn, Finishes}
+use Rattle.feed.specs.Stands.{StandsAt, reading, Stands, Standing, Ends, Unfinished, EndsIn, Finishes}
 use Rattle.glasspuddle.specs.Written.{Written}
 use Rattle.glasspuddle.specs.Program.{Heard, Rested, Answered}
 use Rattle.glasspuddle.proofs.Putting.{written_more, written_all}
 
 -- behind the end of the input some text was printed, and is written
-pub record Resting (fine : Bool) (x : State) (table store : List ℕ) (y : Ending) (store1 : List ℕ) (out out1 : Option (List ℕ)) : Type 0 where
+pub record Resting (fine : Bool) (x : State) (table store : List ℕ) (y : Option Turning) (store1 : List ℕ) (out out1 : Option (List ℕ)) : Type 0 where
   pub text : List ℕ
   pub onward : (b part said : List ℕ) → Stands b x table store part said → Ends b y table store1 (said ++ text)
   pub written : Written fine out out1 text
 
 pub resting_first :
     (fine : Bool) (x : State) (table store : List ℕ) (r : Ended) (text : List ℕ) (out out1 : Option (List ℕ)) →
-    EndsIn x table r text → Written fine out out1 (take r.at text) → Resting fine x table store r.ending store out out1
+    EndsIn x table r text → Written fine out out1 (take r.at text) → Resting fine x table store r.left store out out1
 resting_first fine x table store r text out out1 e w =
     record { text = take r.at text; onward = λ b part said s. (e.prints store part).onward b said s; written = w }
 
-module _ {fine : Bool} {x : State} {table store : List ℕ} {y : Ending} {store1 : List ℕ} {out out1 : Option (List ℕ)} (h : Resting fine x table store y store1 out out1) where
-  pub resting_closes : (part : List ℕ) → Standing x table store part → Closing y table store1
-  resting_closes part s = record { bytes = s.bytes; said = s.said ++ h.text; ends = h.onward s.bytes part s.said s.stands }
+module _ {fine : Bool} {x : State} {table store : List ℕ} {c : Turning} {store1 : List ℕ} {out out1 : Option (List ℕ)} (h : Resting fine x table store (Some c) store1 out out1) where
+  pub resting_closes : (part : List ℕ) → Standing x table store part → Unfinished c table store1
+  resting_closes part s = record { bytes = s.bytes; said = s.said ++ h.text; at = (h.onward s.bytes part s.said s.stands).closing refl }
 
   pub resting_more :
-      (fine1 : Bool) (r : Ended) (store2 text : List ℕ) (out2 : Option (List ℕ)) → fine ≡ true → Finishes y table store1 r store2 text →
-      Written fine1 out1 out2 (take r.at text) → Resting fine1 x table store r.ending store2 out out2
+      (fine1 : Bool) (r : Ended) (store2 text : List ℕ) (out2 : Option (List ℕ)) → fine ≡ true → Finishes c table store1 r store2 text →
+      Written fine1 out1 out2 (take r.at text) → Resting fine1 x table store r.left store2 out out2
   resting_more fine1 r store2 text out2 e f w =
       record {
         text = h.text ++ take r.at text;
         onward = λ b part said s.
-            subst (λ (l : List ℕ). Ends b r.ending table store2 l) (append_assoc said h.text (take r.at text)) (f.prints.onward b (said ++ h.text) (h.onward b part said s));
+            subst (λ (l : List ℕ). Ends b r.left table store2 l) (append_assoc said h.text (take r.at text))
+            (f.prints.onward b (said ++ h.text) ((h.onward b part said s).closing refl));
         written = written_more fine1 out out1 out2 h.text (take r.at text) (written_all fine out out1 h.text h.written e) w;
       }
 
-  -- all that comes is printed, or it could not be written
-  pub rested : (fine ≡ true → y.over ≡ true) → Rested fine x table store out out1
-  rested e =
-      record { text = h.text; written = h.written; whole = λ f b part said s bytes. (h.onward b part said s).over (e f) bytes }
+-- all that comes is printed, or it could not be written
+pub rested :
+    {fine : Bool} {x : State} {table store : List ℕ} {y : Option Turning} {store1 : List ℕ} {out out1 : Option (List ℕ)} →
+    Resting fine x table store y store1 out out1 → (fine ≡ true → y ≡ None) → Rested fine x table store out out1
+rested h e = record { text = h.text; written = h.written; whole = λ f b part said s bytes. (h.onward b part said s).over (e f) bytes }
 
 -- ---- the whole run
 
 -- where the program reads no further, all that it prints is printed
-shut_says : (stage : Stage) (b : List ℕ) (run : Run) (table store part said : List ℕ) → reading stage ≡ false → StandsAt stage b run table store part said → (more : List ℕ) → printed (b ++ more) ≡ said
+shut_says : (stage : Stage) (b table store part said : List ℕ) → reading stage ≡ false → StandsAt stage b table store part said → (more : List ℕ) → printed (b ++ more) ≡ said
 unfolding reading
-shut_says (Head have) b run table store part said e s more = cc
-shut_says (Table n have) b run table store part said e s more = cc
-shut_says (Rows n have) b run table store part said e s more = cc
-shut_says Shut b run table store part said e s more = s more
+shut_says (Head have) b table store part said e s more = cc
+shut_says (Table n have) b table store part said e s more = cc
+shut_says (Rows n have run) b table store part said e s more = cc
+shut_says Shut b table store part said e s more = s more
 
 front_bytes : (a b : List ℕ) → AllBytes (a ++ b) → AllBytes a
 front_bytes a b h = record { each = λ i. front (dec_lt i (length a)) }
@@ -86,7 +87,7 @@ module _
 
   shut : reading y.stage ≡ false → printed input ≡ printed h.bytes
   shut f =
-      let says = shut_says y.stage h.bytes y.run table store part h.said f h.stands.at in
+      let says = shut_says y.stage h.bytes table store part h.said f h.stands.at in
       ap printed input_is ∙ says (h.rest ++ left) ∙ sym (says []) ∙ ap printed (append-nil h.bytes)
 
   all_said : printed input ≡ h.said ++ r.text

@@ -176,10 +176,10 @@ fn give_rest<I, O: Write, C: Clock>(
 {
     let ended = feed::end(state, table, text);
     put(&mut ends.output, &ends.clock, &text[..ended.at])?;
-    let mut latest = ended.ending;
-    while !latest.over {
-        let more = feed::finish(latest, table, store, text);
-        latest = more.ending;
+    let mut left = ended.left;
+    while let Some(turning) = left {
+        let more = feed::finish(turning, table, store, text);
+        left = more.left;
         put(&mut ends.output, &ends.clock, &text[..more.at])?;
     }
     Ok(())

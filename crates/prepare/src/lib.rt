@@ -2,7 +2,6 @@
 // It assumes nothing.
 #![tactic(auto)]
 
-ghost use Rattle.std.specs.Prelude.{◌≡◌, false};
 ghost use Rattle.prepare.specs.Preparing.{CanPrepare, Preparing};
 
 use limits::STREAMS_MOST;

@@ -2,7 +2,7 @@
 // tests the table first", refusal 10). It assumes nothing.
 #![tactic(auto)]
 
-ghost use Rattle.std.specs.Prelude.{◌≡◌, false, ◌-◌, length, take};
+ghost use Rattle.std.specs.Prelude.{false, ◌-◌, length, take};
 ghost use Rattle.basis.specs.Firsts.{of};
 ghost use Rattle.node.specs.Kinds.{Tabulated};
 ghost use Rattle.table.specs.Table.{equations_at_of};

@@ -9,13 +9,13 @@ slice_bounds-put-end g c = (c.end-ended.ensures.prints c.args.store.now c.requir
 pub slice_bounds-put-end-2 : goal.slice_bounds-put-end-2
 slice_bounds-put-end-2 g c = sym (length-take-le _ _ (c.end-ended.ensures.prints c.args.store.now c.requires.0.0).fits)
 
-pub loop-latest-init : goal.loop-latest-init
-loop-latest-init g c = resting_first true _ _ _ _ _ _ _ c.end-ended.ensures c.in_ok-put.ensures
+pub loop-left-init : goal.loop-left-init
+loop-left-init g c = resting_first true _ _ _ _ _ _ _ c.end-ended.ensures c.in_ok-put.ensures
 
-pub loop-latest-preserved : goal.loop-latest-preserved
-loop-latest-preserved g c = resting_more c.loop-latest.invariant true _ _ _ _ refl c.finish-more.ensures c.in_ok-put-2.ensures
+pub loop-left-preserved : goal.loop-left-preserved
+loop-left-preserved g c = resting_more c.loop-left.invariant true _ _ _ _ refl c.finish-more.ensures c.in_ok-put-2.ensures
 
 pub returns-in_err-put-2 : goal.returns-in_err-put-2
 returns-in_err-put-2 g c =
     let p = err_from_is_err_and c.from_residual-in_err-put-2.result c.from_residual-in_err-put-2.ensures.1 in
-    rw p.1 (rested (resting_more c.loop-latest.invariant false _ _ _ _ refl c.finish-more.ensures c.in_err-put-2.ensures) (λ e. cc))
+    rw p.1 (rested (resting_more c.loop-left.invariant false _ _ _ _ refl c.finish-more.ensures c.in_err-put-2.ensures) (λ e. cc))

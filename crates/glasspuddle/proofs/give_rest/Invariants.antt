@@ -4,9 +4,9 @@ use Rattle.feed.specs.Stands.{to_come}
 use Rattle.glasspuddle.proofs.Ending.{Resting}
 use Rattle.glasspuddle.proofs.give_rest.Given as goal
 
-abbrev pub invariant-loop-latest : goal.invariant-loop-latest
-invariant-loop-latest g l =
-    Resting true l.fn.state l.table l.fn.store l.latest l.store (g.O.Write.contents l.fn.ends.output) (g.O.Write.contents l.ends.output)
+abbrev pub invariant-loop-left : goal.invariant-loop-left
+invariant-loop-left g l =
+    Resting true l.fn.state l.table l.fn.store l.left l.store (g.O.Write.contents l.fn.ends.output) (g.O.Write.contents l.ends.output)
 
-abbrev pub decreases-loop-latest : goal.decreases-loop-latest
-decreases-loop-latest g l = to_come l.table l.latest
+abbrev pub decreases-loop-left : goal.decreases-loop-left
+decreases-loop-left g l = to_come l.table l.left
