@@ -29,9 +29,9 @@ pub resting_first :
 resting_first fine x table store r text out out1 e w =
     record { text = take r.at text; onward = λ b part said s. (e.prints store part).onward b said s; written = w }
 
-module _ {fine : Bool} {x : State} {table store : List ℕ} {c : Turning} {store1 : List ℕ} {out out1 : Option (List ℕ)} (h : Resting fine x table store (Some c) store1 out out1) where
+module _ {fine : Bool} {x : State} {table store : List ℕ} {y : Option Turning} {store1 : List ℕ} {out out1 : Option (List ℕ)} (h : Resting fine x table store y store1 out out1) {c : Turning} (is : y ≡ Some c) where
   pub resting_closes : (part : List ℕ) → Standing x table store part → Unfinished c table store1
-  resting_closes part s = record { bytes = s.bytes; said = s.said ++ h.text; at = (h.onward s.bytes part s.said s.stands).closing refl }
+  resting_closes part s = record { bytes = s.bytes; said = s.said ++ h.text; at = (h.onward s.bytes part s.said s.stands).closing is }
 
   pub resting_more :
       (fine1 : Bool) (r : Ended) (store2 text : List ℕ) (out2 : Option (List ℕ)) → fine ≡ true → Finishes c table store1 r store2 text →
@@ -41,7 +41,7 @@ module _ {fine : Bool} {x : State} {table store : List ℕ} {c : Turning} {store
         text = h.text ++ take r.at text;
         onward = λ b part said s.
             subst (λ (l : List ℕ). Ends b r.left table store2 l) (append_assoc said h.text (take r.at text))
-            (f.prints.onward b (said ++ h.text) ((h.onward b part said s).closing refl));
+            (f.prints.onward b (said ++ h.text) ((h.onward b part said s).closing is));
         written = written_more fine1 out out1 out2 h.text (take r.at text) (written_all fine out out1 h.text h.written e) w;
       }
 
