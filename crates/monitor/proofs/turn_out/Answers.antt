@@ -1,13 +1,12 @@
 -- `turn_out`: the store, then the output of what it holds.
 -- Assumes nothing.
 use native.Mathlib.Omega.{arith}
-use Rattle.store.proofs.Frames.{blank_shaped}
 use Rattle.prepare.proofs.Held.{some_held, few_held, some_kept, words_held, ready, room_held}
 use Rattle.monitor.proofs.Turning.{turned}
 use Rattle.monitor.proofs.turn_out.Goals as goal
 
 pub turn-requires : goal.turn-requires
-turn-requires c = record { turnable = ready c.requires.prepares _ c.requires.store_long; kinds_are = c.requires.tabulated; shape = blank_shaped; row = c.requires.row_known; rows = c.requires.rows_fit; words = c.requires.row_long }
+turn-requires c = record { turnable = ready c.requires.prepares _ c.requires.store_long; kinds_are = c.requires.tabulated; row = c.requires.row_known; rows = c.requires.rows_fit; words = c.requires.row_long }
 
 pub emit-requires : goal.emit-requires
 emit-requires c = record {
