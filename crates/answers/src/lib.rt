@@ -37,12 +37,7 @@ fn row_words(row: &[u8], words: &mut [u32])
 }
 
 // A line for each record that the call wrote, or the line of its refusal.
-fn put_answer(
-    outcome: Result<usize, Refusal>,
-    out: &[u8],
-    text: &mut [u8],
-    at: usize,
-) -> usize
+fn put_answer(outcome: Result<usize, Refusal>, out: &[u8], text: &mut [u8], at: usize) -> usize
     requires { Fits outcome out.now text.old at }
     ensures { Wrote text.old at (outcome_text outcome out.now) text.new result }
 {
@@ -74,7 +69,10 @@ fn answer_row(
     row_words(row, words);
     let answer = run.row(table, store, words, &mut out);
     let end = put_answer(answer.outcome, &out, text, at);
-    Turned { run: answer.run, at: end }
+    Turned {
+        run: answer.run,
+        at: end,
+    }
 }
 
 // Rows from the front of the input: as many as are there, whole, and as the text has room for.
@@ -102,7 +100,11 @@ pub fn answer_rows(
         at = turned.at;
         used += row.len();
     }
-    Fed { run: latest, used, at }
+    Fed {
+        run: latest,
+        used,
+        at,
+    }
 }
 
 // The lines of one closing turn.
@@ -114,7 +116,10 @@ fn drain_turn(run: Run, table: &[u8], store: &mut [u32], text: &mut [u8], at: us
     let mut out = [0u8; records::ROOM_MOST];
     let answer = run.drain(table, store, &mut out);
     let end = put_answer(answer.outcome, &out, text, at);
-    Turned { run: answer.run, at: end }
+    Turned {
+        run: answer.run,
+        at: end,
+    }
 }
 
 // Closing turns: as many as there are and as the text has room for.

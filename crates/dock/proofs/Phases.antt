@@ -36,8 +36,7 @@ is_phase Over = refl
 -- so a record whose byte is that of a phase is a run's
 module _ (d : Record) (p : Phase) (e : byte_of p ≡ d.phase) where
   pub run_known : (d.phase ≤ over_byte) × (record { look = d.look; kept = d.kept; rows = d.rows; phase = p; done = d.done } ≡ run_of d)
-  run_known =
-      (
-        rw (← e) (ltb-false _ _ (is_phase p)),
-        ap (λ (q : Phase). record { look = d.look; kept = d.kept; rows = d.rows; phase = q; done = d.done }) (sym (phase_of_number p) ∙ ap phase_for e),
-      )
+  run_known = (
+    rw (← e) (ltb-false _ _ (is_phase p)),
+    ap (λ (q : Phase). record { look = d.look; kept = d.kept; rows = d.rows; phase = q; done = d.done }) (sym (phase_of_number p) ∙ ap phase_for e),
+  )

@@ -110,12 +110,12 @@ module _ {run run1 : Run} {n have : ℕ} {table : List ℕ} (c : run1 ≡ (close
       }
 
   -- a part row has its line, a whole one none
-  pub closes_whole : {read at : ℕ} {text1 : List ℕ} → have ≡ 0 → at ≡ 0 → Closes run read n have table (record { left = Some (record { size = n; run = run1 }); at = at }) text1
-  closes_whole z e = rw e (closes_with (omega arith) (rw z))
+  pub closes_whole : {read : ℕ} {text1 : List ℕ} → have ≡ 0 → Closes run read n have table (record { left = Some (record { size = n; run = run1 }); at = 0 }) text1
+  closes_whole z = closes_with (omega arith) (rw z)
 
-  pub closes_part : {read : ℕ} {text text1 text2 : List ℕ} {at end : ℕ} → (have ≡ 0 → ⊥) → Wrote text 0 (stop_line read) text1 at → text2 ≡ text1 → end ≡ at
-      → Closes run read n have table (record { left = Some (record { size = n; run = run1 }); at = end }) text2
-  closes_part z w t e = rw (t, e) (closes_with (wrote_within (omega arith) w) (w.front ∙ rw (ne_eqb _ _ z)))
+  pub closes_part : {read : ℕ} {text text1 : List ℕ} {at : ℕ} → (have ≡ 0 → ⊥) → Wrote text 0 (stop_line read) text1 at
+      → Closes run read n have table (record { left = Some (record { size = n; run = run1 }); at = at }) text1
+  closes_part z w = closes_with (wrote_within (omega arith) w) (w.front ∙ rw (ne_eqb _ _ z))
 
 reads_on : {other stage : Stage} {X : Type 0} → other ≡ stage → reading stage ≡ true → reading other ≡ false → X
 reads_on e t f = true_false (ap reading e ∙ t) f

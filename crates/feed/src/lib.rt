@@ -326,16 +326,17 @@ fn close(run: Run, read: usize, size: usize, have: usize, table: &[u8], text: &m
     ensures { Closes run read size have table.now result text.new }
 {
     let closed = run.close(&table[..size]);
+    let left = Turning {
+        size,
+        run: closed.run,
+    };
     let at = if have == 0 {
         0
     } else {
         lines::put_stop_line(text, 0, read as u64)
     };
     Ended {
-        left: Some(Turning {
-            size,
-            run: closed.run,
-        }),
+        left: Some(left),
         at,
     }
 }
@@ -349,11 +350,12 @@ pub fn finish(turning: Turning, table: &[u8], store: &mut [u32], text: &mut [u8]
     let run = turning.run;
     if run.phase == Phase::Draining {
         let drained = answers::drain_turns(run, &table[..size], store, text);
+        let left = Turning {
+            size,
+            run: drained.run,
+        };
         return Ended {
-            left: Some(Turning {
-                size,
-                run: drained.run,
-            }),
+            left: Some(left),
             at: drained.at,
         };
     }

@@ -203,8 +203,14 @@ pub fn open(table: &[u8], store: &mut [u32]) -> Answer
     ensures { Opens (open_call table.now store.old) (answered result) store.new }
 {
     match opened(table, store) {
-        Ok(run) => Answer { run, outcome: Ok(0) },
-        Err(refusal) => Answer { run: unopened(), outcome: Err(refusal) },
+        Ok(run) => Answer {
+            run,
+            outcome: Ok(0),
+        },
+        Err(refusal) => Answer {
+            run: unopened(),
+            outcome: Err(refusal),
+        },
     }
 }
 
@@ -394,8 +400,8 @@ impl Run {
             return Err(foreign(table));
         };
         self.turn_by(
-            turn, &kinds, prepared, &look, &kept, &types, &roles, &starts, &order, table,
-            store, row, out,
+            turn, &kinds, prepared, &look, &kept, &types, &roles, &starts, &order, table, store,
+            row, out,
         )
     }
 
@@ -405,7 +411,10 @@ impl Run {
             (answered result) store.new out.new }
     {
         match self.take_turn(Turn::Row, table, store, row, out) {
-            Err(refusal) => Answer { run: self, outcome: Err(refusal) },
+            Err(refusal) => Answer {
+                run: self,
+                outcome: Err(refusal),
+            },
             Ok(taken) => {
                 let run = Run {
                     rows: self.rows + 1,
@@ -413,7 +422,10 @@ impl Run {
                     done: 0,
                     ..self
                 };
-                Answer { run, outcome: Ok(taken.count) }
+                Answer {
+                    run,
+                    outcome: Ok(taken.count),
+                }
             }
         }
     }
@@ -424,7 +436,10 @@ impl Run {
             (answered result) store.new out.new }
     {
         match self.take_turn(Turn::Closing, table, store, &[], out) {
-            Err(refusal) => Answer { run: self, outcome: Err(refusal) },
+            Err(refusal) => Answer {
+                run: self,
+                outcome: Err(refusal),
+            },
             Ok(taken) => {
                 let done = self.done + 1;
                 let run = Run {
@@ -432,7 +447,10 @@ impl Run {
                     done,
                     ..self
                 };
-                Answer { run, outcome: Ok(taken.count) }
+                Answer {
+                    run,
+                    outcome: Ok(taken.count),
+                }
             }
         }
     }
@@ -492,8 +510,14 @@ impl Run {
         ensures { answered result ≡ (close_call table.now self).answer }
     {
         match self.closed(table) {
-            Ok(run) => Answer { run, outcome: Ok(0) },
-            Err(refusal) => Answer { run: self, outcome: Err(refusal) },
+            Ok(run) => Answer {
+                run,
+                outcome: Ok(0),
+            },
+            Err(refusal) => Answer {
+                run: self,
+                outcome: Err(refusal),
+            },
         }
     }
 }
