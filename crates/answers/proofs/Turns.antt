@@ -1,29 +1,21 @@
 -- Laws of turns one after another: one turn more, rows and closing turns from the first on.
 -- Assumes nothing.
-use Prim.Native.Nat.{ℕ, ◌+◌, ◌*◌, ◌-◌, ◌≤◌, ◌<◌}
+use Prim.Native.Nat.{ℕ, ◌+◌, ◌*◌, ◌≤◌, ◌<◌}
 use native.Mathlib.Omega.{arith}
 use native.Mathlib.Numerals.{add-one}
 use native.Mathlib.Nat.{suc-mul, zero-mul}
 use mathlib.Core.Path.{◌≡◌, refl, ap, sym, ◌∙◌}
-use mathlib.Core.Bool.{Bool, true, false, cond}
+use mathlib.Core.Bool.{true, false}
 use mathlib.Core.Logic.{⊎_elim}
 use mathlib.Core.List.{List, [], ◌++◌, append_assoc}
-use borrow.Author.Tests.{eqb-true, eqb-false}
-use lib.Dec.{eqb}
 use lib.ListN.{length, length-append}
 use Rattle.basis.proofs.Tests.{lt_or_eq}
 use Rattle.basis.proofs.Written.{wrote_nothing, then}
-use Rattle.lines.specs.Lines.{refusal_line}
-use Rattle.lines.proofs.Lengths.{wrote_within}
-use Rattle.records.specs.Kinds.{most_text}
 use Rattle.monitor.specs.declared.Run.{Run}
-use Rattle.monitor.specs.Refusals.{Fault, is_draining_of}
-use Rattle.monitor.proofs.Refusals.{drain_left}
-use Rattle.announce.specs.Announced.{announced}
-use Rattle.monitor.specs.Calls.{After, acceptance, refusal, row_call_of, drain_call_of}
+use Rattle.monitor.specs.Refusals.{is_draining_of}
+use Rattle.monitor.specs.Calls.{After, row_call_of, drain_call_of}
 use Rattle.answers.specs.Words.{words_at}
-use Rattle.answers.specs.Rows.{Progress, begun, onward, text_of, lent, after_row, after_rows, after_drain, after_drains, Reached, Answered, Drained}
-use Rattle.answers.proofs.Answers.{refused_text}
+use Rattle.answers.specs.Rows.{Progress, begun, onward, lent, after_row, after_rows, after_drain, after_drains, Reached, Answered}
 use Rattle.answers.proofs.Pieces.{front_words, behind_words}
 
 -- one turn more, whatever the call
@@ -101,62 +93,21 @@ unfolding after_drains
 drains_more s turns x u v = rw add-one (next_turn (λ y st. drain_call_of s y st lent) u v)
 
 -- a turn was left before each of them
-pub record Going (s : List ℕ) (x : Progress) (r : Run) (st a b : List ℕ) (at : ℕ) : Type 0 where
-  pub turns : ℕ
-  pub reached : Reached (after_drains s turns x) r st a 0 b at
+pub record Going (s : List ℕ) (turns : ℕ) (x : Progress) : Type 0 where
   pub each : (i : ℕ) → i < turns → is_draining_of (after_drains s i x).run.phase ≡ true
 
-pub going_none : (s : List ℕ) (r : Run) (st a : List ℕ) → Going s (begun r st) r st a a 0
-going_none s r st a = record { turns = 0; reached = drains_none s r st a; each = λ i h. absurd (omega arith) }
+pub going_none : (s : List ℕ) (x : Progress) → Going s 0 x
+going_none s x = record { each = λ i h. absurd (omega arith) }
 
-module _ {s : List ℕ} {x : Progress} {r : Run} {st a b : List ℕ} {at : ℕ} (g : Going s x r st a b at) where
-  pub going_more : {r' : Run} {st' c : List ℕ} {end : ℕ} → is_draining_of r.phase ≡ true → Reached (after_drain s (begun r st)) r' st' b at c end → Going s x r' st' a c end
-  going_more e v = record {
-    turns = g.turns + 1;
-    reached = drains_more s g.turns x g.reached v;
-    each =
-        λ i h. ⊎_elim (λ l. g.each i l) (λ l. rw l (ap (λ (y : Run). is_draining_of y.phase) (sym g.reached.run_is) ∙ e)) (lt_or_eq (let k : i ≤ g.turns = omega arith in k));
-  }
+pub going_more : {s : List ℕ} {turns : ℕ} {x : Progress} → Going s turns x → {r : Run} {st a b : List ℕ} {q : ℕ} → Reached (after_drains s turns x) r st a 0 b q → is_draining_of r.phase ≡ true → Going s (turns + 1) x
+going_more {s} {turns} {x} g u e =
+    record { each = λ i h. ⊎_elim (λ l. g.each i l) (λ l. rw l (ap (λ (y : Run). is_draining_of y.phase) (sym u.run_is) ∙ e)) (lt_or_eq (let k : i ≤ turns = omega arith in k)) }
 
-  -- no turn, no text
-  drains_silent : x.text ≡ [] → g.turns ≡ 0 → at ≡ 0
-  unfolding after_drains
-  drains_silent t z = let w = rw (z, t) at g.reached.wrote.ends in w
+-- no turn, no text
+pub drains_silent : (s : List ℕ) (turns : ℕ) (x : Progress) {r : Run} {st a b : List ℕ} {q : ℕ} → x.text ≡ [] → Reached (after_drains s turns x) r st a 0 b q → turns ≡ 0 → q ≡ 0
+unfolding after_drains
+drains_silent s turns x t u z = let w = rw (z, t) at u.wrote.ends in w
 
-  drains_left : is_draining_of r.phase ≡ false → g.turns ≡ 0 → is_draining_of x.run.phase ≡ false
-  unfolding after_drains
-  drains_left e z = let w = rw z at g.reached.run_is in ap (λ (y : Run). is_draining_of y.phase) (sym w) ∙ e
-
-  drained_by : (g.turns ≡ 0 → is_draining_of x.run.phase ≡ false) → Drained s x r st a b at
-  drained_by h = record { turns = g.turns; reached = g.reached; drains = record { each = g.each; some = h } }
-
-  -- none is left, or there is no room for one
-  pub drained_all : is_draining_of r.phase ≡ false → Drained s x r st a b at
-  drained_all e = drained_by (drains_left e)
-
-  pub drained_room : x.text ≡ [] → most_text ≤ length a → length b - at < most_text → Drained s x r st a b at
-  drained_room t l f = drained_by (λ z. absurd (omega (arith, drains_silent t z, g.reached.wrote.size)))
-
--- ---- closing turns end: a refused one has a line, an accepted one adds to those done
-
-line_some : (number place : ℕ) → 0 < length (refusal_line number place)
-unfolding refusal_line
-line_some number place = omega arith
-
--- fewer turns are left, or less room for text
-record Less (closing : ℕ) (r : Run) (x : After) : Type 0 where
-  falls : closing - x.answer.run.done < (closing - r.done) + length (text_of x)
-
-less_by : (f : Fault) {r : Run} (next : Run) (st u v : List ℕ) {closing : ℕ} (b : Bool) → eqb f.number 0 ≡ b → (f.number ≡ 0 → r.done < closing) → next.done ≡ r.done + 1
-    → Less closing r (cond b (acceptance next u v lent) (refusal r f st lent))
-less_by f next st u v true p h e = record { falls = omega (arith, h (eqb-true _ _ p), e) }
-less_by f next st u v false p h e = record { falls = rw (refused_text f.place [] (eqb-false _ _ p)) (omega (arith, line_some f.number f.place)) }
-
-drain_less : (s : List ℕ) (r : Run) (st : List ℕ) → Less (announced s).closing r (drain_call_of s r st lent)
-unfolding drain_call_of
-drain_less s r st = less_by _ _ _ _ _ _ refl (drain_left s r (length st) [] (length lent) refl) refl
-
-pub drain_falls : (s : List ℕ) (r : Run) (st : List ℕ) {r' : Run} {st' b c : List ℕ} {at end : ℕ} → at + most_text ≤ length b → Reached (after_drain s (begun r st)) r' st' b at c end
-    → ((announced s).closing - r'.done) + (length c - end) < ((announced s).closing - r.done) + (length b - at)
-drain_falls s r st room v =
-    omega (arith, (drain_less s r st).falls, ap (λ (y : Run). y.done) v.run_is, v.wrote.ends, v.wrote.size, wrote_within (omega arith) v.wrote)
+pub drains_left : (s : List ℕ) (turns : ℕ) (x : Progress) {r : Run} {st a b : List ℕ} {q : ℕ} → Reached (after_drains s turns x) r st a 0 b q → is_draining_of r.phase ≡ false → turns ≡ 0 → is_draining_of x.run.phase ≡ false
+unfolding after_drains
+drains_left s turns x u e z = let w = rw z at u.run_is in ap (λ (y : Run). is_draining_of y.phase) (sym w) ∙ e

@@ -77,13 +77,8 @@ pub record Taken (input : List ℕ) (inputs rows used : ℕ) : Type 0 where
   pub whole : used ≤ length input
   pub some : used ≡ 0 → length input < 4 * inputs
 
--- so were some rows answered, and so were some closing turns
+-- so were some rows answered
 pub record Answered (s input : List ℕ) (inputs : ℕ) (x : Progress) (r : Run) (st before after : List ℕ) (used end : ℕ) : Type 0 where
   pub rows : ℕ
   pub reached : Reached (after_rows s input inputs rows x) r st before 0 after end
   pub taken : Taken input inputs rows used
-
-pub record Drained (s : List ℕ) (x : Progress) (r : Run) (st before after : List ℕ) (end : ℕ) : Type 0 where
-  pub turns : ℕ
-  pub reached : Reached (after_drains s turns x) r st before 0 after end
-  pub drains : Drains s turns x

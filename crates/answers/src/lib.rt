@@ -6,16 +6,19 @@ ghost use Rattle.basis.specs.Written.{Wrote};
 ghost use Rattle.limits.specs.Limits.{most_streams};
 ghost use Rattle.records.specs.Kinds.{most_text};
 ghost use Rattle.answers.specs.Words.{words_at};
-ghost use Rattle.answers.specs.Rows.{Fits, outcome_text, begun, after_row, after_drain, Reached, Answered, Drained};
+ghost use Rattle.answers.specs.Rows.{Fits, outcome_text, begun, after_row, after_drain, after_drains, Reached, Drains, Answered};
 
 use limits::Refusal;
 use monitor::{Phase, Run};
 
-// A run after some turns, and where their text ends.
+// A run has fewer closing turns, since a look-ahead has 16 bits: the count only ends the loop.
+const TURNS_MOST: usize = 65536;
+
+// A run after a turn, and where its text ends.
 #[derive(Clone, Copy)]
-pub struct Turned {
-    pub run: Run,
-    pub at: usize,
+struct Turned {
+    run: Run,
+    at: usize,
 }
 
 // A run after some rows, the bytes that they took, and where their text ends.
@@ -23,6 +26,14 @@ pub struct Turned {
 pub struct Fed {
     pub run: Run,
     pub used: usize,
+    pub at: usize,
+}
+
+// A run after some closing turns, how many they are, and where their text ends.
+#[derive(Clone, Copy)]
+pub struct Drained {
+    pub run: Run,
+    pub turns: usize,
     pub at: usize,
 }
 
@@ -123,16 +134,29 @@ fn drain_turn(run: Run, table: &[u8], store: &mut [u32], text: &mut [u8], at: us
 }
 
 // Closing turns: as many as there are and as the text has room for.
-pub fn drain_turns(run: Run, table: &[u8], store: &mut [u32], text: &mut [u8]) -> Turned
+pub fn drain_turns(run: Run, table: &[u8], store: &mut [u32], text: &mut [u8]) -> Drained
     requires { most_text ≤ length text.old }
-    ensures { Drained table.now (begun run store.old) result.run store.new text.old text.new result.at }
+    ensures reached { Reached (after_drains table.now result.turns (begun run store.old))
+        result.run store.new text.old 0 text.new result.at }
+    ensures drains { Drains table.now result.turns (begun run store.old) }
 {
     let mut latest = run;
     let mut at = 0;
-    while latest.phase == Phase::Draining && records::TEXT_MOST <= text.len() - at {
+    for turns in 0..TURNS_MOST {
+        if latest.phase != Phase::Draining || text.len() - at < records::TEXT_MOST {
+            return Drained {
+                run: latest,
+                turns,
+                at,
+            };
+        }
         let turned = drain_turn(latest, table, store, text, at);
         latest = turned.run;
         at = turned.at;
     }
-    Turned { run: latest, at }
+    Drained {
+        run: latest,
+        turns: TURNS_MOST,
+        at,
+    }
 }

@@ -1,22 +1,23 @@
 -- No turn, one turn more, and that some turn is taken where one is left. Assumes nothing.
-use borrow.Author.Tests.{leb-false}
+use borrow.Author.Rules.{rules}
 use native.Mathlib.Omega.{arith}
 use mathlib.Core.Path.{refl, sym, ◌∙◌}
-use Rattle.answers.proofs.Phases.{draining_test}
-use Rattle.answers.proofs.Turns.{going_none, going_more, drained_all, drained_room, drain_falls}
+use Rattle.answers.proofs.Phases.{draining_test, not_other, other}
+use Rattle.answers.proofs.Turns.{drains_none, drains_more, going_none, going_more, drains_silent, drains_left}
 use Rattle.answers.proofs.drain_turns.Goals as goal
+use Rattle.answers.proofs.drain_turns.Goals.{then-ne-via-then-ne, then-ne-via-else-ne+then-text-at-lt-TEXT_MOST}
 
-pub loop-latest-init : goal.loop-latest-init
-loop-latest-init c = going_none _ _ _ _
+pub loop-turns-init : goal.loop-turns-init
+loop-turns-init c = (drains_none _ _ _ _, refl, going_none _ _)
 
-pub loop-latest-preserved : goal.loop-latest-preserved
-loop-latest-preserved c = going_more c.loop-latest.invariant (sym (draining_test _) ∙ sym c.eq.ensures ∙ c.loop-latest-test.true) c.drain_turn-turned.ensures
+pub loop-turns-preserved : goal.loop-turns-preserved
+loop-turns-preserved c = (drains_more _ _ _ c.loop-turns.invariant.0 c.drain_turn-turned.ensures, search rules, going_more c.loop-turns.invariant.2 c.loop-turns.invariant.0 (sym (draining_test _) ∙ not_other _ c.ne.ensures c.if-ne.false))
 
-pub loop-latest-smaller : goal.loop-latest-smaller
-loop-latest-smaller c = drain_falls _ _ _ (omega (arith, c.if-text-at-ge-TEXT_MOST.true)) c.drain_turn-turned.ensures
-
-pub returns-after-loop-latest : goal.returns-after-loop-latest
-returns-after-loop-latest c = drained_all c.loop-latest.invariant (sym (draining_test _) ∙ sym c.eq.ensures ∙ c.loop-latest-test.false)
-
-pub returns-else-text-at-ge-TEXT_MOST : goal.returns-else-text-at-ge-TEXT_MOST
-returns-else-text-at-ge-TEXT_MOST c = drained_room c.loop-latest.invariant refl c.requires (omega (arith, leb-false, c.if-text-at-ge-TEXT_MOST.false))
+pub returns-then-ne-clause-drains : goal.returns-then-ne-clause-drains
+returns-then-ne-clause-drains c = record {
+  each = c.loop-turns.invariant.2.each;
+  some = λ z. elim c.then-ne.branch [
+    | then-ne-via-then-ne w ↦ drains_left _ _ _ c.loop-turns.invariant.0 (sym (draining_test _) ∙ other _ c.ne.ensures w.if-ne.true) z
+    | then-ne-via-else-ne+then-text-at-lt-TEXT_MOST w ↦ absurd (omega (arith, w.if-text-at-lt-TEXT_MOST.true, drains_silent _ _ _ refl c.loop-turns.invariant.0 z, c.loop-turns.invariant.0.wrote.size))
+  ];
+}

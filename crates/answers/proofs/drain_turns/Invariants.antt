@@ -1,14 +1,10 @@
--- The loop's invariant: some closing turns are done. The measure is how many are left, and how much of the text.
+-- The loop's invariant: so many closing turns are done.
 -- Assumes nothing.
-use Prim.Native.Nat.{◌+◌, ◌-◌}
+use mathlib.Core.Path.{◌≡◌}
 use lib.ListN.{length}
-use Rattle.announce.specs.Announced.{announced}
-use Rattle.answers.specs.Rows.{begun}
+use Rattle.answers.specs.Rows.{begun, after_drains, Reached}
 use Rattle.answers.proofs.Turns.{Going}
 use Rattle.answers.proofs.drain_turns.Given as goal
 
-abbrev pub invariant-loop-latest : goal.invariant-loop-latest
-invariant-loop-latest l = Going l.table (begun l.initial.latest l.initial.store) l.latest l.store l.initial.text l.text l.at
-
-abbrev pub decreases-loop-latest : goal.decreases-loop-latest
-decreases-loop-latest l = ((announced l.table).closing - l.latest.done) + (length l.text - l.at)
+abbrev pub invariant-loop-turns : goal.invariant-loop-turns
+invariant-loop-turns l = Reached (after_drains l.table l.turns (begun l.initial.latest l.initial.store)) l.latest l.store l.initial.text 0 l.text l.at × (length l.store ≡ length l.initial.store) × Going l.table l.turns (begun l.initial.latest l.initial.store)
