@@ -5,7 +5,7 @@ use mathlib.Core.List.{List}
 use Rattle.std.proofs.Common.{Option, Some, None}
 use Rattle.table.proofs.Decoding.{same_table}
 use Rattle.prepare.specs.declared.Prepared.{Prepared}
-use Rattle.prepare.specs.Preparing.{Brief, brief_by, Prepares, Preparing}
+use Rattle.prepare.specs.Preparing.{Brief, Prepares, Preparing}
 
 -- all but the order
 record SameBrief (p q : Brief) : Type 0 where

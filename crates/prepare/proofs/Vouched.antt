@@ -1,8 +1,7 @@
 -- From numbers that are vouched for to what a call prepares by them.
 -- Assumes nothing.
 use Prim.Native.Nat.{ℕ, ◌-◌, ◌*◌, ◌≤◌}
-use mathlib.Core.Path.{◌≡◌, sym, ap, subst, ◌∙◌}
-use mathlib.Core.Bool.{Bool, true, false}
+use mathlib.Core.Path.{◌≡◌, sym, ap, ◌∙◌}
 use mathlib.Core.List.{List}
 use native.Mathlib.Omega.{arith}
 use lib.ListN.{length, get_or}

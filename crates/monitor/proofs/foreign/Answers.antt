@@ -1,6 +1,6 @@
 -- `foreign`: the table's own refusal, or 10.
 -- Assumes nothing.
-use mathlib.Core.Path.{refl, ◌∙◌}
+use mathlib.Core.Path.{refl}
 use Rattle.limits.proofs.Faults.{number_some}
 use Rattle.monitor.proofs.Refusals.{foreign_10, foreign_table}
 use Rattle.monitor.proofs.foreign.Goals as goal
