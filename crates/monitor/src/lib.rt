@@ -31,6 +31,7 @@ pub enum Phase {
 #[derive(Clone, Copy, Debug, PartialEq, Eq)]
 pub struct UnknownPhase(pub u8);
 
+// The phase of a byte.
 impl TryFrom<u8> for Phase {
     type Error = UnknownPhase;
 
@@ -46,6 +47,7 @@ impl TryFrom<u8> for Phase {
     }
 }
 
+// The byte of a phase.
 impl From<Phase> for u8 {
     ghost from_gives = { HasByte };
 
@@ -95,18 +97,6 @@ fn unopened() -> Run
         rows: 0,
         phase: Phase::Reading,
         done: 0,
-    }
-}
-
-// Whether the rows are within the limit, which is the largest number of their type, and the phase agrees.
-#[tactic(auto, unfolding(crate::specs::Refusals::record_agrees_of, crate::specs::Refusals::phase_agrees))]
-fn record_agrees(phase: Phase, rows: u32, done: u16, closing: u16) -> bool
-    ensures { result ≡ record_agrees_of phase rows done closing }
-{
-    match phase {
-        Phase::Reading => done == 0,
-        Phase::Draining => 0 < rows && done < closing,
-        Phase::Over => done == if rows == 0 { 0 } else { closing },
     }
 }
 
@@ -249,13 +239,25 @@ fn known_rows(turn: Turn, rows: u32) -> u64
 }
 
 impl Run {
-    // "not a record of this table", as far as the phase is concerned.
+    // Whether the rows are within the limit, which is the largest number of their type, and the phase agrees.
+    #[tactic(auto, unfolding(crate::specs::Refusals::record_agrees_of, crate::specs::Refusals::phase_agrees))]
+    fn agrees(self, closing: u16) -> bool
+        ensures { result ≡ record_agrees_of self.phase self.rows self.done closing }
+    {
+        match self.phase {
+            Phase::Reading => self.done == 0,
+            Phase::Draining => 0 < self.rows && self.done < closing,
+            Phase::Over => self.done == if self.rows == 0 { 0 } else { closing },
+        }
+    }
+
+    // "not a record of this table", where its numbers are the announced ones.
     fn test_record(self, closing: u16) -> Result<(), Refusal>
         ensures { MatchResult result (λ _. record_agrees_of self.phase self.rows self.done closing ≡ true)
             (λ e. (record_agrees_of self.phase self.rows self.done closing ≡ false)
             × (told e ≡ fault foreign_record 0)) }
     {
-        if record_agrees(self.phase, self.rows, self.done, closing) {
+        if self.agrees(closing) {
             Ok(())
         } else {
             Err(Fault::ForeignRecord.at(0))
@@ -315,7 +317,7 @@ impl Run {
         Ok(())
     }
 
-    // The tests of a turn's call, by what is prepared: of a closing turn, or of a row.
+    // The tests of a turn's call, by what is prepared: of a row, or of a closing turn.
     fn test_turn(
         self,
         turn: Turn,
@@ -411,10 +413,6 @@ impl Run {
             (answered result) store.new out.new }
     {
         match self.take_turn(Turn::Row, table, store, row, out) {
-            Err(refusal) => Answer {
-                run: self,
-                outcome: Err(refusal),
-            },
             Ok(taken) => {
                 let run = Run {
                     rows: self.rows + 1,
@@ -427,6 +425,10 @@ impl Run {
                     outcome: Ok(taken.count),
                 }
             }
+            Err(refusal) => Answer {
+                run: self,
+                outcome: Err(refusal),
+            },
         }
     }
 
@@ -436,10 +438,6 @@ impl Run {
             (answered result) store.new out.new }
     {
         match self.take_turn(Turn::Closing, table, store, &[], out) {
-            Err(refusal) => Answer {
-                run: self,
-                outcome: Err(refusal),
-            },
             Ok(taken) => {
                 let done = self.done + 1;
                 let run = Run {
@@ -452,6 +450,10 @@ impl Run {
                     outcome: Ok(taken.count),
                 }
             }
+            Err(refusal) => Answer {
+                run: self,
+                outcome: Err(refusal),
+            },
         }
     }
 
