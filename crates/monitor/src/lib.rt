@@ -342,8 +342,6 @@ impl Run {
         turn: Turn,
         kinds: &[[u8; ENTRIES]; KINDS_MOST],
         prepared: Prepared,
-        look: &[u16; STREAMS_MOST],
-        kept: &[u16; STREAMS_MOST],
         types: &[u8; STREAMS_MOST],
         roles: &[u8; STREAMS_MOST],
         starts: &[u16; STREAMS_MOST],
@@ -353,7 +351,7 @@ impl Run {
         row: &[u32],
         out: &mut [u8],
     ) -> Result<Taken, Refusal>
-        requires { TurnReady self kinds.now table.now look.now kept.now (brief_by prepared types.now roles.now starts.now order.now) }
+        requires { TurnReady self kinds.now table.now (brief_by prepared types.now roles.now starts.now order.now) }
         ensures { Took turn table.now self row.now store.old out.old
             store.new out.new result }
     {
@@ -361,8 +359,8 @@ impl Run {
         let known = known_rows(turn, self.rows);
         let t = u64::from(self.rows) + u64::from(self.done);
         let count = turn_out(
-            kinds, prepared, look, kept, types, roles, starts, order, table, store, row, out,
-            known, t,
+            kinds, prepared, &self.look, &self.kept, types, roles, starts, order, table, store,
+            row, out, known, t,
         );
         Ok(Taken {
             count,
@@ -382,8 +380,6 @@ impl Run {
         ensures { Took turn table.now self row.now store.old out.old
             store.new out.new result }
     {
-        let look = self.look;
-        let kept = self.kept;
         let kinds = node::kind_table();
         let mut types = [0u8; STREAMS_MOST];
         let mut roles = [0u8; STREAMS_MOST];
@@ -392,8 +388,8 @@ impl Run {
         let Some(prepared) = prepare::prepare(
             table,
             &kinds,
-            &look,
-            &kept,
+            &self.look,
+            &self.kept,
             &mut types,
             &mut roles,
             &mut starts,
@@ -402,8 +398,7 @@ impl Run {
             return Err(foreign(table));
         };
         self.turn_by(
-            turn, &kinds, prepared, &look, &kept, &types, &roles, &starts, &order, table, store,
-            row, out,
+            turn, &kinds, prepared, &types, &roles, &starts, &order, table, store, row, out,
         )
     }
 
@@ -461,8 +456,6 @@ impl Run {
     fn sums(self, table: &[u8]) -> Option<Prepared>
         ensures { Summed table.now self.look self.kept result }
     {
-        let look = self.look;
-        let kept = self.kept;
         let kinds = node::kind_table();
         let mut types = [0u8; STREAMS_MOST];
         let mut roles = [0u8; STREAMS_MOST];
@@ -471,8 +464,8 @@ impl Run {
         prepare::prepare(
             table,
             &kinds,
-            &look,
-            &kept,
+            &self.look,
+            &self.kept,
             &mut types,
             &mut roles,
             &mut starts,

@@ -13,8 +13,8 @@ returns-in_err-test_turn c = let p = err_from_is_err_and c.from_residual.result 
     (c.in_err-test_turn.ensures ∙ sym (turn_prepared c.args.self c.args.prepared c.requires.prepares c.args.turn _ _ _)))
 
 pub turn_out-count-requires : goal.turn_out-count-requires
-turn_out-count-requires c = rw (c.requires.look_is, c.requires.kept_is)
-    (turn_fits c.args.self c.args.prepared c.requires.tabulated c.requires.prepares _ c.args.row.now _ c.args.turn c.in_ok-test_turn.ensures c.known_rows-known.ensures c.from.ensures (omega arith) (omega arith))
+turn_out-count-requires c =
+    turn_fits c.args.self c.args.prepared c.requires.tabulated c.requires.prepares _ c.args.row.now _ c.args.turn c.in_ok-test_turn.ensures c.known_rows-known.ensures c.from.ensures (omega arith) (omega arith)
 
 pub returns : goal.returns
 returns c = took_turned c.args.turn c.args.table.now c.args.self c.args.row.now c.args.store.now c.args.out.now
