@@ -100,6 +100,18 @@ fn unopened() -> Run
     }
 }
 
+// Whether the rows are within the limit, which is the largest number of their type, and the phase agrees.
+#[tactic(auto, unfolding(crate::specs::Refusals::record_agrees_of, crate::specs::Refusals::phase_agrees))]
+fn record_agrees(phase: Phase, rows: u32, done: u16, closing: u16) -> bool
+    ensures { result ≡ record_agrees_of phase rows done closing }
+{
+    match phase {
+        Phase::Reading => done == 0,
+        Phase::Draining => 0 < rows && done < closing,
+        Phase::Over => done == if rows == 0 { 0 } else { closing },
+    }
+}
+
 // "input flag word above 1".
 fn is_bad(kind: u8, word: u32) -> bool
     ensures { result ≡ eqb kind 0 && ltb 1 word }
@@ -239,25 +251,13 @@ fn known_rows(turn: Turn, rows: u32) -> u64
 }
 
 impl Run {
-    // Whether the rows are within the limit, which is the largest number of their type, and the phase agrees.
-    #[tactic(auto, unfolding(crate::specs::Refusals::record_agrees_of, crate::specs::Refusals::phase_agrees))]
-    fn agrees(self, closing: u16) -> bool
-        ensures { result ≡ record_agrees_of self.phase self.rows self.done closing }
-    {
-        match self.phase {
-            Phase::Reading => self.done == 0,
-            Phase::Draining => 0 < self.rows && self.done < closing,
-            Phase::Over => self.done == if self.rows == 0 { 0 } else { closing },
-        }
-    }
-
     // "not a record of this table", where its numbers are the announced ones.
-    fn test_record(self, closing: u16) -> Result<(), Refusal>
-        ensures { MatchResult result (λ _. record_agrees_of self.phase self.rows self.done closing ≡ true)
-            (λ e. (record_agrees_of self.phase self.rows self.done closing ≡ false)
+    fn test_record(&self, closing: u16) -> Result<(), Refusal>
+        ensures { MatchResult result (λ _. record_agrees_of self.now.phase self.now.rows self.now.done closing ≡ true)
+            (λ e. (record_agrees_of self.now.phase self.now.rows self.now.done closing ≡ false)
             × (told e ≡ fault foreign_record 0)) }
     {
-        if self.agrees(closing) {
+        if record_agrees(self.phase, self.rows, self.done, closing) {
             Ok(())
         } else {
             Err(Fault::ForeignRecord.at(0))
@@ -267,7 +267,7 @@ impl Run {
     // "a row with 10 to 16 in order".
     #[tactic(auto, unfolding(crate::specs::Refusals::row_refusal, crate::specs::Refusals::is_reading_of))]
     fn test_row(
-        self,
+        &self,
         prepared: Prepared,
         types: &[u8; STREAMS_MOST],
         lent: usize,
@@ -275,7 +275,7 @@ impl Run {
         space: usize,
     ) -> Result<(), Refusal>
         requires { prepared.inputs ≤ most_streams }
-        ensures { tested result ≡ row_tests_of self prepared types.now lent row.now space }
+        ensures { tested result ≡ row_tests_of self.now prepared types.now lent row.now space }
     {
         self.test_record(prepared.closing)?;
         if lent < prepared.words {
@@ -301,8 +301,8 @@ impl Run {
 
     // "draining with 10, 11, 12, 16".
     #[tactic(auto, unfolding(crate::specs::Refusals::drain_refusal, crate::specs::Refusals::is_draining_of))]
-    fn test_drain(self, prepared: Prepared, lent: usize, space: usize) -> Result<(), Refusal>
-        ensures { tested result ≡ drain_tests_of self prepared lent space }
+    fn test_drain(&self, prepared: Prepared, lent: usize, space: usize) -> Result<(), Refusal>
+        ensures { tested result ≡ drain_tests_of self.now prepared lent space }
     {
         self.test_record(prepared.closing)?;
         if lent < prepared.words {
@@ -319,7 +319,7 @@ impl Run {
 
     // The tests of a turn's call, by what is prepared: of a row, or of a closing turn.
     fn test_turn(
-        self,
+        &self,
         turn: Turn,
         prepared: Prepared,
         types: &[u8; STREAMS_MOST],
@@ -328,7 +328,7 @@ impl Run {
         space: usize,
     ) -> Result<(), Refusal>
         requires { prepared.inputs ≤ most_streams }
-        ensures { tested result ≡ turn_tests turn self prepared types.now lent row.now space }
+        ensures { tested result ≡ turn_tests turn self.now prepared types.now lent row.now space }
     {
         match turn {
             Turn::Row => self.test_row(prepared, types, lent, row, space),
@@ -338,7 +338,7 @@ impl Run {
 
     // A turn by what is prepared: its tests, then the store and the output.
     fn turn_by(
-        self,
+        &self,
         turn: Turn,
         kinds: &[[u8; ENTRIES]; KINDS_MOST],
         prepared: Prepared,
@@ -351,8 +351,8 @@ impl Run {
         row: &[u32],
         out: &mut [u8],
     ) -> Result<Taken, Refusal>
-        requires { TurnReady self kinds.now table.now (brief_by prepared types.now roles.now starts.now order.now) }
-        ensures { Took turn table.now self row.now store.old out.old
+        requires { TurnReady self.now kinds.now table.now (brief_by prepared types.now roles.now starts.now order.now) }
+        ensures { Took turn table.now self.now row.now store.old out.old
             store.new out.new result }
     {
         self.test_turn(turn, prepared, types, store.len(), row, out.len())?;
@@ -370,14 +370,14 @@ impl Run {
 
     // The next turn, of a row or a closing one: "Every call tests the table first."
     fn take_turn(
-        self,
+        &self,
         turn: Turn,
         table: &[u8],
         store: &mut [u32],
         row: &[u32],
         out: &mut [u8],
     ) -> Result<Taken, Refusal>
-        ensures { Took turn table.now self row.now store.old out.old
+        ensures { Took turn table.now self.now row.now store.old out.old
             store.new out.new result }
     {
         let kinds = node::kind_table();
@@ -453,8 +453,8 @@ impl Run {
     }
 
     // The sums by the record's numbers, for a call that has no turn.
-    fn sums(self, table: &[u8]) -> Option<Prepared>
-        ensures { Summed table.now self.look self.kept result }
+    fn sums(&self, table: &[u8]) -> Option<Prepared>
+        ensures { Summed table.now self.now.look self.now.kept result }
     {
         let kinds = node::kind_table();
         let mut types = [0u8; STREAMS_MOST];
@@ -475,8 +475,8 @@ impl Run {
 
     // "closing with 10, 12".
     #[tactic(auto, unfolding(crate::specs::Refusals::close_refusal, crate::specs::Refusals::is_reading_of))]
-    fn test_close(self, prepared: Prepared) -> Result<(), Refusal>
-        ensures { tested result ≡ close_tests_of self prepared }
+    fn test_close(&self, prepared: Prepared) -> Result<(), Refusal>
+        ensures { tested result ≡ close_tests_of self.now prepared }
     {
         self.test_record(prepared.closing)?;
         if self.phase != Phase::Reading {
@@ -486,8 +486,8 @@ impl Run {
     }
 
     // The record after closing: "Closing fixes N".
-    fn closed(self, table: &[u8]) -> Result<Run, Refusal>
-        ensures { ended self result ≡ (close_call table.now self).answer }
+    fn closed(&self, table: &[u8]) -> Result<Run, Refusal>
+        ensures { ended self.now result ≡ (close_call table.now self.now).answer }
     {
         let Some(prepared) = self.sums(table) else {
             return Err(foreign(table));
@@ -496,7 +496,7 @@ impl Run {
         Ok(Run {
             phase: closed_phase(self.rows, prepared.closing),
             done: 0,
-            ..self
+            ..*self
         })
     }
 
