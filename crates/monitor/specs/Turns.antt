@@ -44,11 +44,9 @@ pub record TurnFits (kinds : List (List ℕ)) (s look kept : List ℕ) (p : Brie
   pub rows_fit : n < 2 ^ 32
   pub row_long : t < n → p.inputs ≤ given
 
--- what a turn by its brief needs: the constant table, the record's own numbers, and the brief by them
-pub record TurnReady (r : Run) (kinds : List (List ℕ)) (s look kept : List ℕ) (p : Brief) : Type 0 where
+-- what a turn by its brief needs: the constant table, and the brief by the record's own numbers
+pub record TurnReady (r : Run) (kinds : List (List ℕ)) (s : List ℕ) (p : Brief) : Type 0 where
   pub tabulated : Tabulated kinds
-  pub look_is : look ≡ r.look
-  pub kept_is : kept ≡ r.kept
   pub prepares : Prepares s r.look r.kept p
 
 -- the rows known in a turn: those taken before it, and a row call's own ("turn j, for the j-th accepted row, counted from 0")

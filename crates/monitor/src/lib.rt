@@ -31,6 +31,7 @@ pub enum Phase {
 #[derive(Clone, Copy, Debug, PartialEq, Eq)]
 pub struct UnknownPhase(pub u8);
 
+// The phase of a byte.
 impl TryFrom<u8> for Phase {
     type Error = UnknownPhase;
 
@@ -46,6 +47,7 @@ impl TryFrom<u8> for Phase {
     }
 }
 
+// The byte of a phase.
 impl From<Phase> for u8 {
     ghost from_gives = { HasByte };
 
@@ -249,10 +251,10 @@ fn known_rows(turn: Turn, rows: u32) -> u64
 }
 
 impl Run {
-    // "not a record of this table", as far as the phase is concerned.
-    fn test_record(self, closing: u16) -> Result<(), Refusal>
-        ensures { MatchResult result (λ _. record_agrees_of self.phase self.rows self.done closing ≡ true)
-            (λ e. (record_agrees_of self.phase self.rows self.done closing ≡ false)
+    // "not a record of this table", where its numbers are the announced ones.
+    fn test_record(&self, closing: u16) -> Result<(), Refusal>
+        ensures { MatchResult result (λ _. record_agrees_of self.now.phase self.now.rows self.now.done closing ≡ true)
+            (λ e. (record_agrees_of self.now.phase self.now.rows self.now.done closing ≡ false)
             × (told e ≡ fault foreign_record 0)) }
     {
         if record_agrees(self.phase, self.rows, self.done, closing) {
@@ -265,7 +267,7 @@ impl Run {
     // "a row with 10 to 16 in order".
     #[tactic(auto, unfolding(crate::specs::Refusals::row_refusal, crate::specs::Refusals::is_reading_of))]
     fn test_row(
-        self,
+        &self,
         prepared: Prepared,
         types: &[u8; STREAMS_MOST],
         lent: usize,
@@ -273,7 +275,7 @@ impl Run {
         space: usize,
     ) -> Result<(), Refusal>
         requires { prepared.inputs ≤ most_streams }
-        ensures { tested result ≡ row_tests_of self prepared types.now lent row.now space }
+        ensures { tested result ≡ row_tests_of self.now prepared types.now lent row.now space }
     {
         self.test_record(prepared.closing)?;
         if lent < prepared.words {
@@ -299,8 +301,8 @@ impl Run {
 
     // "draining with 10, 11, 12, 16".
     #[tactic(auto, unfolding(crate::specs::Refusals::drain_refusal, crate::specs::Refusals::is_draining_of))]
-    fn test_drain(self, prepared: Prepared, lent: usize, space: usize) -> Result<(), Refusal>
-        ensures { tested result ≡ drain_tests_of self prepared lent space }
+    fn test_drain(&self, prepared: Prepared, lent: usize, space: usize) -> Result<(), Refusal>
+        ensures { tested result ≡ drain_tests_of self.now prepared lent space }
     {
         self.test_record(prepared.closing)?;
         if lent < prepared.words {
@@ -315,9 +317,9 @@ impl Run {
         Ok(())
     }
 
-    // The tests of a turn's call, by what is prepared: of a closing turn, or of a row.
+    // The tests of a turn's call, by what is prepared: of a row, or of a closing turn.
     fn test_turn(
-        self,
+        &self,
         turn: Turn,
         prepared: Prepared,
         types: &[u8; STREAMS_MOST],
@@ -326,7 +328,7 @@ impl Run {
         space: usize,
     ) -> Result<(), Refusal>
         requires { prepared.inputs ≤ most_streams }
-        ensures { tested result ≡ turn_tests turn self prepared types.now lent row.now space }
+        ensures { tested result ≡ turn_tests turn self.now prepared types.now lent row.now space }
     {
         match turn {
             Turn::Row => self.test_row(prepared, types, lent, row, space),
@@ -336,12 +338,10 @@ impl Run {
 
     // A turn by what is prepared: its tests, then the store and the output.
     fn turn_by(
-        self,
+        &self,
         turn: Turn,
         kinds: &[[u8; ENTRIES]; KINDS_MOST],
         prepared: Prepared,
-        look: &[u16; STREAMS_MOST],
-        kept: &[u16; STREAMS_MOST],
         types: &[u8; STREAMS_MOST],
         roles: &[u8; STREAMS_MOST],
         starts: &[u16; STREAMS_MOST],
@@ -351,16 +351,16 @@ impl Run {
         row: &[u32],
         out: &mut [u8],
     ) -> Result<Taken, Refusal>
-        requires { TurnReady self kinds.now table.now look.now kept.now (brief_by prepared types.now roles.now starts.now order.now) }
-        ensures { Took turn table.now self row.now store.old out.old
+        requires { TurnReady self.now kinds.now table.now (brief_by prepared types.now roles.now starts.now order.now) }
+        ensures { Took turn table.now self.now row.now store.old out.old
             store.new out.new result }
     {
         self.test_turn(turn, prepared, types, store.len(), row, out.len())?;
         let known = known_rows(turn, self.rows);
         let t = u64::from(self.rows) + u64::from(self.done);
         let count = turn_out(
-            kinds, prepared, look, kept, types, roles, starts, order, table, store, row, out,
-            known, t,
+            kinds, prepared, &self.look, &self.kept, types, roles, starts, order, table, store,
+            row, out, known, t,
         );
         Ok(Taken {
             count,
@@ -370,18 +370,16 @@ impl Run {
 
     // The next turn, of a row or a closing one: "Every call tests the table first."
     fn take_turn(
-        self,
+        &self,
         turn: Turn,
         table: &[u8],
         store: &mut [u32],
         row: &[u32],
         out: &mut [u8],
     ) -> Result<Taken, Refusal>
-        ensures { Took turn table.now self row.now store.old out.old
+        ensures { Took turn table.now self.now row.now store.old out.old
             store.new out.new result }
     {
-        let look = self.look;
-        let kept = self.kept;
         let kinds = node::kind_table();
         let mut types = [0u8; STREAMS_MOST];
         let mut roles = [0u8; STREAMS_MOST];
@@ -390,8 +388,8 @@ impl Run {
         let Some(prepared) = prepare::prepare(
             table,
             &kinds,
-            &look,
-            &kept,
+            &self.look,
+            &self.kept,
             &mut types,
             &mut roles,
             &mut starts,
@@ -400,8 +398,7 @@ impl Run {
             return Err(foreign(table));
         };
         self.turn_by(
-            turn, &kinds, prepared, &look, &kept, &types, &roles, &starts, &order, table, store,
-            row, out,
+            turn, &kinds, prepared, &types, &roles, &starts, &order, table, store, row, out,
         )
     }
 
@@ -411,10 +408,6 @@ impl Run {
             (answered result) store.new out.new }
     {
         match self.take_turn(Turn::Row, table, store, row, out) {
-            Err(refusal) => Answer {
-                run: self,
-                outcome: Err(refusal),
-            },
             Ok(taken) => {
                 let run = Run {
                     rows: self.rows + 1,
@@ -427,6 +420,10 @@ impl Run {
                     outcome: Ok(taken.count),
                 }
             }
+            Err(refusal) => Answer {
+                run: self,
+                outcome: Err(refusal),
+            },
         }
     }
 
@@ -436,10 +433,6 @@ impl Run {
             (answered result) store.new out.new }
     {
         match self.take_turn(Turn::Closing, table, store, &[], out) {
-            Err(refusal) => Answer {
-                run: self,
-                outcome: Err(refusal),
-            },
             Ok(taken) => {
                 let done = self.done + 1;
                 let run = Run {
@@ -452,15 +445,17 @@ impl Run {
                     outcome: Ok(taken.count),
                 }
             }
+            Err(refusal) => Answer {
+                run: self,
+                outcome: Err(refusal),
+            },
         }
     }
 
     // The sums by the record's numbers, for a call that has no turn.
-    fn sums(self, table: &[u8]) -> Option<Prepared>
-        ensures { Summed table.now self.look self.kept result }
+    fn sums(&self, table: &[u8]) -> Option<Prepared>
+        ensures { Summed table.now self.now.look self.now.kept result }
     {
-        let look = self.look;
-        let kept = self.kept;
         let kinds = node::kind_table();
         let mut types = [0u8; STREAMS_MOST];
         let mut roles = [0u8; STREAMS_MOST];
@@ -469,8 +464,8 @@ impl Run {
         prepare::prepare(
             table,
             &kinds,
-            &look,
-            &kept,
+            &self.look,
+            &self.kept,
             &mut types,
             &mut roles,
             &mut starts,
@@ -480,8 +475,8 @@ impl Run {
 
     // "closing with 10, 12".
     #[tactic(auto, unfolding(crate::specs::Refusals::close_refusal, crate::specs::Refusals::is_reading_of))]
-    fn test_close(self, prepared: Prepared) -> Result<(), Refusal>
-        ensures { tested result ≡ close_tests_of self prepared }
+    fn test_close(&self, prepared: Prepared) -> Result<(), Refusal>
+        ensures { tested result ≡ close_tests_of self.now prepared }
     {
         self.test_record(prepared.closing)?;
         if self.phase != Phase::Reading {
@@ -491,8 +486,8 @@ impl Run {
     }
 
     // The record after closing: "Closing fixes N".
-    fn closed(self, table: &[u8]) -> Result<Run, Refusal>
-        ensures { ended self result ≡ (close_call table.now self).answer }
+    fn closed(&self, table: &[u8]) -> Result<Run, Refusal>
+        ensures { ended self.now result ≡ (close_call table.now self.now).answer }
     {
         let Some(prepared) = self.sums(table) else {
             return Err(foreign(table));
@@ -501,7 +496,7 @@ impl Run {
         Ok(Run {
             phase: closed_phase(self.rows, prepared.closing),
             done: 0,
-            ..self
+            ..*self
         })
     }
 
