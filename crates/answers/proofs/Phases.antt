@@ -1,6 +1,6 @@
 -- The code's test of a phase is that of the definitions. Assumes nothing.
 use mathlib.Core.Path.{◌≡◌, refl}
-use mathlib.Core.Bool.{Bool, true, false, not}
+use mathlib.Core.Bool.{Bool, true, false}
 use denote.Enum.Bare.{sameb}
 use Rattle.monitor.specs.declared.Phase.{Phase}
 use Rattle.monitor.specs.declared.Phase.TheVariants.{Reading, Draining, Over}
@@ -12,12 +12,3 @@ unfolding is_draining_of
 draining_test Reading = refl
 draining_test Draining = refl
 draining_test Over = refl
-
--- and its opposite
-pub not_other : (b : Bool) {r : Bool} → r ≡ not b → r ≡ false → b ≡ true
-not_other true e f = refl
-not_other false e f = cc
-
-pub other : (b : Bool) {r : Bool} → r ≡ not b → r ≡ true → b ≡ false
-other true e f = cc
-other false e f = refl

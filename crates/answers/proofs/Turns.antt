@@ -15,7 +15,7 @@ use Rattle.monitor.specs.declared.Run.{Run}
 use Rattle.monitor.specs.Refusals.{is_draining_of}
 use Rattle.monitor.specs.Calls.{After, row_call_of, drain_call_of}
 use Rattle.answers.specs.Words.{words_at}
-use Rattle.answers.specs.Rows.{Progress, begun, onward, lent, after_row, after_rows, after_drain, after_drains, Reached, Answered}
+use Rattle.answers.specs.Rows.{Progress, begun, onward, lent, after_row, after_rows, after_drain, after_drains, Reached, Taken}
 use Rattle.answers.proofs.Pieces.{front_words, behind_words}
 
 -- one turn more, whatever the call
@@ -28,8 +28,7 @@ pub reached_none : (r : Run) (st a : List ℕ) → Reached (begun r st) r st a 0
 reached_none r st a = record { run_is = refl; store_is = refl; wrote = wrote_nothing a 0 }
 
 -- some rows at the input's front have been answered, and `rest` is behind them
-pub record Rowed (s : List ℕ) (r₀ : Run) (st₀ a input : List ℕ) (inputs : ℕ) (r : Run) (st b rest : List ℕ) (used at : ℕ) : Type 0 where
-  pub rows : ℕ
+pub record Rowed (s : List ℕ) (r₀ : Run) (st₀ a input : List ℕ) (inputs : ℕ) (r : Run) (st b rest : List ℕ) (rows used at : ℕ) : Type 0 where
   pub reached : Reached (after_rows s input inputs rows (begun r₀ st₀)) r st a 0 b at
   pub used_is : used ≡ rows * (4 * inputs)
   pub fewer : rows ≤ used
@@ -37,10 +36,9 @@ pub record Rowed (s : List ℕ) (r₀ : Run) (st₀ a input : List ℕ) (inputs 
   pub before_long : used ≡ length before
   pub input_is : input ≡ before ++ rest
 
-pub rows_none : (s : List ℕ) (r : Run) (st a input : List ℕ) (inputs : ℕ) → Rowed s r st a input inputs r st a input 0 0
+pub rows_none : (s : List ℕ) (r : Run) (st a input : List ℕ) (inputs : ℕ) → Rowed s r st a input inputs r st a input 0 0 0
 unfolding after_rows
 rows_none s r st a input inputs = record {
-  rows = 0;
   reached = reached_none r st a;
   used_is = sym (zero-mul (4 * inputs));
   fewer = omega arith;
@@ -49,7 +47,7 @@ rows_none s r st a input inputs = record {
   input_is = refl;
 }
 
-module _ {s : List ℕ} {r₀ : Run} {st₀ a input : List ℕ} {inputs : ℕ} {r : Run} {st b rest : List ℕ} {used at : ℕ} (u : Rowed s r₀ st₀ a input inputs r st b rest used at) where
+module _ {s : List ℕ} {r₀ : Run} {st₀ a input : List ℕ} {inputs : ℕ} {r : Run} {st b rest : List ℕ} {rows used at : ℕ} (u : Rowed s r₀ st₀ a input inputs r st b rest rows used at) where
   -- the words of the next row are those of its own bytes
   next_words : (row behind : List ℕ) → rest ≡ row ++ behind → length row ≡ 4 * inputs → words_at input used inputs ≡ words_at row 0 inputs
   next_words row behind e l =
@@ -57,14 +55,13 @@ module _ {s : List ℕ} {r₀ : Run} {st₀ a input : List ℕ} {inputs : ℕ} {
       (behind_words u.before (row ++ behind) used 0 inputs (omega (arith, u.before_long)) ∙ front_words row behind 0 inputs (omega (arith, l)))
 
   pub rows_more : (row : List ℕ) {behind : List ℕ} {r' : Run} {st' c : List ℕ} {end : ℕ} → 1 ≤ inputs → rest ≡ row ++ behind → length row ≡ 4 * inputs
-      → Reached (after_row s (words_at row 0 inputs) (begun r st)) r' st' b at c end → Rowed s r₀ st₀ a input inputs r' st' c behind (used + length row) end
+      → Reached (after_row s (words_at row 0 inputs) (begun r st)) r' st' b at c end → Rowed s r₀ st₀ a input inputs r' st' c behind (rows + 1) (used + length row) end
   unfolding after_rows
   rows_more row {behind} i e l v = record {
-    rows = u.rows + 1;
     reached =
         let w = rw (← next_words row behind e l) at v in
         rw (add-one, ← u.used_is) (next_turn (λ y st. row_call_of s y (words_at input used inputs) st lent) u.reached w);
-    used_is = rw l (ap (λ (k : ℕ). k + 4 * inputs) u.used_is ∙ sym (suc-mul u.rows (4 * inputs)) ∙ ap (λ (k : ℕ). k * (4 * inputs)) (sym (add-one u.rows)));
+    used_is = rw l (ap (λ (k : ℕ). k + 4 * inputs) u.used_is ∙ sym (suc-mul rows (4 * inputs)) ∙ ap (λ (k : ℕ). k * (4 * inputs)) (sym (add-one rows)));
     fewer = omega (arith, u.fewer, l);
     before = u.before ++ row;
     before_long = omega (arith, u.before_long, length-append u.before row);
@@ -75,13 +72,13 @@ module _ {s : List ℕ} {r₀ : Run} {st₀ a input : List ℕ} {inputs : ℕ} {
   pub rows_silent : used ≡ 0 → at ≡ 0
   unfolding after_rows
   rows_silent h =
-      let e : u.rows ≡ 0 = omega (arith, u.fewer) in
+      let e : rows ≡ 0 = omega (arith, u.fewer) in
       let w = rw e at u.reached.wrote.ends in w
 
-  pub rows_done : (used ≡ 0 → length rest < 4 * inputs) → Answered s input inputs (begun r₀ st₀) r st a b used at
+  pub rows_done : (used ≡ 0 → length rest < 4 * inputs) → Taken input inputs rows used
   rows_done h =
       let l : length input ≡ used + length rest = omega (arith, ap length u.input_is, length-append u.before rest, u.before_long) in
-      record { rows = u.rows; reached = u.reached; taken = record { used_is = u.used_is; whole = omega (arith, l); some = λ z. omega (arith, l, z, h z) } }
+      record { used_is = u.used_is; whole = omega (arith, l); some = λ z. omega (arith, l, z, h z) }
 
 -- some closing turns are done
 pub drains_none : (s : List ℕ) (r : Run) (st a : List ℕ) → Reached (after_drains s 0 (begun r st)) r st a 0 a 0

@@ -5,8 +5,9 @@ ghost use Rattle.std.specs.Prelude.{◌≡◌, ◌+◌, ◌*◌, ◌≤◌, ◌<
 ghost use Rattle.basis.specs.Written.{Wrote};
 ghost use Rattle.limits.specs.Limits.{most_streams};
 ghost use Rattle.records.specs.Kinds.{most_text};
+ghost use Rattle.monitor.specs.Refusals.{is_draining_of};
 ghost use Rattle.answers.specs.Words.{words_at};
-ghost use Rattle.answers.specs.Rows.{Fits, outcome_text, begun, after_row, after_drain, after_drains, Reached, Drains, Answered};
+ghost use Rattle.answers.specs.Rows.{Fits, outcome_text, begun, after_row, after_rows, after_drain, after_drains, Reached, Drains, Taken};
 
 use limits::Refusal;
 use monitor::{Phase, Run};
@@ -21,10 +22,11 @@ struct Turned {
     at: usize,
 }
 
-// A run after some rows, the bytes that they took, and where their text ends.
+// A run after some rows, how many they are, the bytes that they took, and where their text ends.
 #[derive(Clone, Copy)]
 pub struct Fed {
     pub run: Run,
+    pub rows: usize,
     pub used: usize,
     pub at: usize,
 }
@@ -96,10 +98,12 @@ pub fn answer_rows(
     text: &mut [u8],
 ) -> Fed
     requires { (1 ≤ inputs) × (inputs < most_streams) × (most_text ≤ length text.old) }
-    ensures { Answered table.now input.now inputs (begun run store.old)
-        result.run store.new text.old text.new result.used result.at }
+    ensures reached { Reached (after_rows table.now input.now inputs result.rows (begun run store.old))
+        result.run store.new text.old 0 text.new result.at }
+    ensures taken { Taken input.now inputs result.rows result.used }
 {
     let mut latest = run;
+    let mut rows = 0;
     let mut used = 0;
     let mut at = 0;
     for row in input.chunks_exact(4 * inputs) {
@@ -110,12 +114,21 @@ pub fn answer_rows(
         latest = turned.run;
         at = turned.at;
         used += row.len();
+        rows += 1;
     }
     Fed {
         run: latest,
+        rows,
         used,
         at,
     }
+}
+
+// Whether closing turns are left.
+pub fn is_draining(run: Run) -> bool
+    ensures { result ≡ is_draining_of run.phase }
+{
+    run.phase == Phase::Draining
 }
 
 // The lines of one closing turn.
@@ -143,7 +156,7 @@ pub fn drain_turns(run: Run, table: &[u8], store: &mut [u32], text: &mut [u8]) -
     let mut latest = run;
     let mut at = 0;
     for turns in 0..TURNS_MOST {
-        if latest.phase != Phase::Draining || text.len() - at < records::TEXT_MOST {
+        if !is_draining(latest) || text.len() - at < records::TEXT_MOST {
             return Drained {
                 run: latest,
                 turns,

@@ -8,5 +8,5 @@ use Rattle.answers.proofs.answer_rows.Given as goal
 
 abbrev pub invariant-loop-row : goal.invariant-loop-row
 invariant-loop-row l =
-    Rowed l.table l.initial.latest l.initial.store l.initial.text l.input l.inputs l.latest l.store l.text (chunks_exact_rest l.row-iterator) l.used l.at
+    Rowed l.table l.initial.latest l.initial.store l.initial.text l.input l.inputs l.latest l.store l.text (chunks_exact_rest l.row-iterator) l.rows l.used l.at
     × (chunks_exact_size l.row-iterator ≡ 4 * l.inputs)
