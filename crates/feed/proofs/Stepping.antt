@@ -23,7 +23,7 @@ use Rattle.feed.specs.declared.Moved.{Moved}
 use Rattle.feed.specs.declared.Turning.{Turning}
 use Rattle.feed.specs.declared.Ended.{Ended}
 use Rattle.feed.specs.Printed.{part_line, printed}
-use Rattle.feed.specs.Stands.{AtHead, AtTable, AtRows, come, AtClosing, StandsAt, reading, Lent, Stands, Standing, Ends, Begins, Unfinished, Moves, Steps, Prints, EndsIn, Closes, Finishes, advanced_to}
+use Rattle.feed.specs.Stands.{AtHead, AtTable, AtRows, come, AtClosing, StandsAt, reading, Lent, Stands, Standing, Ends, Begins, Closing, Unfinished, Moves, Steps, Prints, EndsIn, Closes, Finishes, advanced_to}
 use Rattle.feed.proofs.Texts.{printed_stopped, printed_short}
 
 -- ---- the stage that the program stands at
@@ -176,12 +176,23 @@ stands_on {piece = piece} {r = r} {text1 = text1} o s =
 pub stands_first : {x : State} {table store part : List ℕ} → Begins x → Lent table store part → Standing x table store part
 stands_first {table = table} {store} {part} b l = record { bytes = []; said = []; stands = b table store part l }
 
--- what is left behind the input's end can be finished
-turning : {b : List ℕ} {x : Option Turning} {table store said : List ℕ} {c : Turning} → Ends b x table store said → x ≡ Some c → Unfinished c table store
-turning {b} {said = said} e q = record { bytes = b; said = said; at = e.closing q }
+pub stands_closing : {x : State} {table store part : List ℕ} {r : Ended} {text1 : List ℕ} → EndsIn x table r text1 → Standing x table store part → Closing r.left table store
+stands_closing {store = store} {part = part} {r = r} {text1 = text1} e s =
+    record { bytes = s.bytes; said = s.said ++ take r.at text1; ends = (e.prints store part).onward s.bytes s.said s.stands }
 
-pub stands_closing : {x : State} {table store part : List ℕ} {r : Ended} {text1 : List ℕ} {c : Turning} → EndsIn x table r text1 → Standing x table store part → r.left ≡ Some c → Unfinished c table store
-stands_closing {store = store} {part = part} e s q = turning ((e.prints store part).onward s.bytes s.said s.stands) q
+pub closing_on : {x : Turning} {table store : List ℕ} {r : Ended} {store1 text1 : List ℕ} → Finishes x table store r store1 text1 → Closing (Some x) table store → Closing r.left table store1
+closing_on {r = r} {text1 = text1} f c =
+    record { bytes = c.bytes; said = c.said ++ take r.at text1; ends = f.prints.onward c.bytes c.said (c.ends.closing refl) }
 
-pub closing_on : {x c : Turning} {table store : List ℕ} {r : Ended} {store1 text1 : List ℕ} → Finishes x table store r store1 text1 → Unfinished x table store → r.left ≡ Some c → Unfinished c table store1
-closing_on f c q = turning (f.prints.onward c.bytes c.said c.at) q
+-- what is left can be finished
+pub unfinished : {x : Option Turning} {table store : List ℕ} {c : Turning} → Closing x table store → x ≡ Some c → Unfinished c table store
+unfinished e q = record { bytes = e.bytes; said = e.said; at = e.ends.closing q }
+
+closing_of : {c : Turning} {table store : List ℕ} → Unfinished c table store → Closing (Some c) table store
+closing_of c = record { bytes = c.bytes; said = c.said; ends = record { over = λ z. left_some z; closing = λ z. rw (← some_one z) c.at } }
+
+pub stands_unfinished : {x : State} {table store part : List ℕ} {r : Ended} {text1 : List ℕ} {c : Turning} → EndsIn x table r text1 → Standing x table store part → r.left ≡ Some c → Unfinished c table store
+stands_unfinished e s q = unfinished (stands_closing e s) q
+
+pub unfinished_on : {x c : Turning} {table store : List ℕ} {r : Ended} {store1 text1 : List ℕ} → Finishes x table store r store1 text1 → Unfinished x table store → r.left ≡ Some c → Unfinished c table store1
+unfinished_on f c q = unfinished (closing_on f (closing_of c)) q

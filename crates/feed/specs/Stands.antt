@@ -118,6 +118,12 @@ pub record Ends (b : List ℕ) (x : Option Turning) (table store said : List ℕ
   pub over : x ≡ None → AllBytes b → printed b ≡ said
   pub closing : {c : Turning} → x ≡ Some c → AtClosing b c.run table store c.size said
 
+-- what is left, or that nothing is, is what some bytes lead to behind their end
+pub record Closing (x : Option Turning) (table store : List ℕ) : Type 0 where
+  pub bytes : List ℕ
+  pub said : List ℕ
+  pub ends : Ends bytes x table store said
+
 -- the closing turns are those that some bytes lead to
 pub record Unfinished (c : Turning) (table store : List ℕ) : Type 0 where
   pub bytes : List ℕ

@@ -16,7 +16,7 @@ ghost use Rattle.feed.specs.Stands.{most_part, Held, advanced_to, Begins, Standi
 ghost use Rattle.feed.specs.Stands.{FromHead, FromTable, FromRows, Steps, Closes, EndsIn, Finishes};
 
 use limits::{Fault, Refusal};
-use monitor::{Phase, Run};
+use monitor::Run;
 
 // "kind byte 60, two bytes of table length"
 const KIND_TABLE: u8 = 0x60;
@@ -348,7 +348,7 @@ pub fn finish(turning: Turning, table: &[u8], store: &mut [u32], text: &mut [u8]
 {
     let size = turning.size;
     let run = turning.run;
-    if run.phase == Phase::Draining {
+    if answers::is_draining(run) {
         let drained = answers::drain_turns(run, &table[..size], store, text);
         let left = Turning {
             size,
