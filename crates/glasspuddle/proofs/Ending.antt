@@ -12,7 +12,7 @@ use Rattle.feed.specs.declared.State.{State}
 use Rattle.feed.specs.declared.Turning.{Turning}
 use Rattle.feed.specs.declared.Ended.{Ended}
 use Rattle.feed.specs.Printed.{printed}
-use Rattle.feed.specs.Stands.{StandsAt, reading, Stands, Standing, Ends, Unfinished, EndsIn, Finishes}
+use Rattle.feed.specs.Stands.{StandsAt, reading, Stands, Standing, Ends, Closing, EndsIn, Finishes}
 use Rattle.glasspuddle.specs.Written.{Written}
 use Rattle.glasspuddle.specs.Program.{Heard, Rested, Answered}
 use Rattle.glasspuddle.proofs.Putting.{written_more, written_all}
@@ -29,14 +29,14 @@ pub resting_first :
 resting_first fine x table store r text out out1 e w =
     record { text = take r.at text; onward = λ b part said s. (e.prints store part).onward b said s; written = w }
 
-module _ {fine : Bool} {x : State} {table store : List ℕ} {y : Option Turning} {store1 : List ℕ} {out out1 : Option (List ℕ)} (h : Resting fine x table store y store1 out out1) {c : Turning} (is : y ≡ Some c) where
-  pub resting_closes : (part : List ℕ) → Standing x table store part → Unfinished c table store1
-  resting_closes part s = record { bytes = s.bytes; said = s.said ++ h.text; at = (h.onward s.bytes part s.said s.stands).closing is }
+module _ {fine : Bool} {x : State} {table store : List ℕ} {y : Option Turning} {store1 : List ℕ} {out out1 : Option (List ℕ)} (h : Resting fine x table store y store1 out out1) where
+  pub resting_closes : (part : List ℕ) → Standing x table store part → Closing y table store1
+  resting_closes part s = record { bytes = s.bytes; said = s.said ++ h.text; ends = h.onward s.bytes part s.said s.stands }
 
   pub resting_more :
-      (fine1 : Bool) (r : Ended) (store2 text : List ℕ) (out2 : Option (List ℕ)) → fine ≡ true → Finishes c table store1 r store2 text →
+      {c : Turning} → y ≡ Some c → (fine1 : Bool) (r : Ended) (store2 text : List ℕ) (out2 : Option (List ℕ)) → fine ≡ true → Finishes c table store1 r store2 text →
       Written fine1 out1 out2 (take r.at text) → Resting fine1 x table store r.left store2 out out2
-  resting_more fine1 r store2 text out2 e f w =
+  resting_more is fine1 r store2 text out2 e f w =
       record {
         text = h.text ++ take r.at text;
         onward = λ b part said s.

@@ -1,12 +1,12 @@
 -- Laws of the input that is read piece by piece. Assumes nothing.
-use Rattle.std.proofs.Common.{ℕ, ◌≡◌, ◌+◌, ◌<◌, ◌^◌, Bool, true, false, Option, None, Some, List, [], ◌++◌, take, drop, refl, sym, ap, ◌∙◌, subst, append_assoc, append-nil, take-append-drop, arith}
+use Rattle.std.proofs.Common.{ℕ, ◌≡◌, ◌+◌, ◌<◌, ◌^◌, Bool, true, false, not, Option, None, Some, List, [], ◌++◌, take, drop, refl, sym, ap, ◌∙◌, subst, append_assoc, append-nil, take-append-drop, arith}
 use Rattle.std.proofs.lemmas.List.{drop_all}
 use Rattle.std.specs.Io.KnownBytes.{Appends, Consumes, Keeps, IsAtEnd}
 use Rattle.std.proofs.KnownBytes.{Appends-nil, Appends-trans, Consumes-nil, Consumes-trans, Consumes-kept}
 use Rattle.feed.specs.declared.State.{State}
 use Rattle.feed.specs.Stands.{reading, Lent, Stands, Standing, Begins}
 use Rattle.glasspuddle.specs.Program.{Taken, Heard}
-use Rattle.glasspuddle.proofs.Putting.{written_more, written_all, written_whole}
+use Rattle.glasspuddle.proofs.Putting.{not_not, written_some, written_more, written_all, written_whole}
 
 -- what was read so far, all of it taken where the program reads on, and its text is written
 pub record Hearing (y : State) (table store part : List ℕ) (into into1 out out1 : Option (List ℕ)) : Type 0 where
@@ -57,9 +57,11 @@ module _ {y : State} {table store part : List ℕ} {into into1 out out1 : Option
   consumed into2 piece used on got =
       subst (Consumes into into2) (split h.bytes h.rest piece used (h.all on)) (Consumes-trans _ _ _ (h.bytes ++ h.rest) piece h.read got)
 
-  module _ (on : reading y.stage ≡ true) (into2 : Option (List ℕ)) (piece : List ℕ) (got : Consumes into1 into2 piece) {z : State} {table1 store1 part1 : List ℕ} {out2 : Option (List ℕ)} where
-    pub heard_more : Taken false y table store part piece z table1 store1 part1 out1 out2 → Heard false z table1 store1 part1 into into2 out out2
-    heard_more t =
+  module _
+      (on : reading y.stage ≡ true) (into2 : Option (List ℕ)) (piece : List ℕ) (got : Consumes into1 into2 piece)
+      {fine : Bool} {z : State} {table1 store1 part1 : List ℕ} {out2 : Option (List ℕ)} (t : Taken fine y table store part piece z table1 store1 part1 out1 out2) where
+    pub heard_more : Heard false z table1 store1 part1 into into2 out out2
+    heard_more =
         record {
           bytes = h.bytes ++ take t.used piece;
           rest = drop t.used piece;
@@ -67,17 +69,17 @@ module _ {y : State} {table store part : List ℕ} {into into1 out out1 : Option
           ended = λ f. cc;
           said = h.said ++ t.text;
           stands = t.onward h.bytes h.said h.stands;
-          written = written_more false _ _ _ h.said t.text h.written t.written;
+          written = written_more false _ _ _ h.said t.text h.written (written_some fine _ _ t.text t.written);
         }
 
-    pub hearing_more : Taken true y table store part piece z table1 store1 part1 out1 out2 → Hearing z table1 store1 part1 into into2 out out2
-    hearing_more t =
+    pub hearing_more : not fine ≡ false → Hearing z table1 store1 part1 into into2 out out2
+    hearing_more e =
         record {
           bytes = h.bytes ++ take t.used piece;
           rest = drop t.used piece;
           read = consumed into2 piece t.used on got;
-          all = λ f. drop_all t.used piece (omega (arith, t.all refl f));
+          all = λ f. drop_all t.used piece (omega (arith, t.all (not_not fine e) f));
           said = h.said ++ t.text;
           stands = t.onward h.bytes h.said h.stands;
-          written = Appends-trans _ _ _ h.said t.text h.written (written_all true _ _ t.text t.written refl);
+          written = Appends-trans _ _ _ h.said t.text h.written (written_all fine _ _ t.text t.written (not_not fine e));
         }

@@ -1,10 +1,14 @@
 -- Laws of a text that is put piece by piece. Assumes nothing.
-use Rattle.std.proofs.Common.{ℕ, ◌≡◌, ◌+◌, ◌-◌, ◌≤◌, Bool, true, Option, List, ◌++◌, length, take, drop, refl, sym, ap, ◌∙◌, subst, arith, length-drop, length-append}
+use Rattle.std.proofs.Common.{ℕ, ◌≡◌, ◌+◌, ◌-◌, ◌≤◌, Bool, true, false, not, Option, List, ◌++◌, length, take, drop, refl, sym, ap, ◌∙◌, subst, arith, length-drop, length-append}
 use Rattle.std.proofs.lemmas.List.{take_all}
 use Rattle.std.proofs.Math.Seq.{take-add, take-append-add}
 use Rattle.std.specs.Io.KnownBytes.{Appends}
 use Rattle.std.proofs.KnownBytes.{Appends-trans}
 use Rattle.glasspuddle.specs.Written.{Written}
+
+pub not_not : (b : Bool) → not b ≡ false → b ≡ true
+not_not true e = refl
+not_not false e = sym e
 
 -- the bytes behind the first ones, as a program lends them
 abbrev pub behind : List ℕ → ℕ → List ℕ
@@ -40,6 +44,10 @@ written_more fine old mid new text more put w =
       appended = subst (Appends old new) (sym (take-append-add text more w.count)) (Appends-trans old mid new text (take w.count more) put w.appended);
       whole = λ e. omega (arith, long, w.whole e);
     }
+
+-- something of it is written, whether all of it or not
+pub written_some : (fine : Bool) (old new : Option (List ℕ)) (text : List ℕ) → Written fine old new text → Written false old new text
+written_some fine old new text w = record { count = w.count; within = w.within; appended = w.appended; whole = λ e. cc }
 
 pub written_all : (fine : Bool) (old new : Option (List ℕ)) (text : List ℕ) → Written fine old new text → fine ≡ true → Appends old new text
 written_all fine old new text w e =

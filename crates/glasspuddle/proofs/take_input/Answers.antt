@@ -1,4 +1,4 @@
-use Rattle.std.proofs.Common.{true, false, sym, arith}
+use Rattle.std.proofs.Common.{true, false, refl, sym, arith}
 use Rattle.std.proofs.KnownBytes.{Keeps-refl}
 use Rattle.std.proofs.lemmas.Result.{err_from_is_err_and}
 use Rattle.glasspuddle.proofs.Hearing.{hearing_none, kept_none, heard_end, heard_more, hearing_more}
@@ -26,7 +26,7 @@ returns-in_err-latest-clause-heard g c =
 pub loop-ends-preserved : goal.loop-ends-preserved
 loop-ends-preserved g c =
     let taken = rw c.in_ok-n.ensures.output at c.in_ok-latest.ensures.taken in
-    rw c.in_ok-latest.ensures.input (hearing_more c.loop-ends.invariant (sym c.loop-ends-test.ensures) _ _ c.in_ok-n.ensures.read.1 taken)
+    rw c.in_ok-latest.ensures.input (hearing_more c.loop-ends.invariant (sym c.loop-ends-test.ensures) _ _ c.in_ok-n.ensures.read.1 taken refl)
 
 pub returns-else-latest-clause-heard : goal.returns-else-latest-clause-heard
 returns-else-latest-clause-heard g c =
