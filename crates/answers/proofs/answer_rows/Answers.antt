@@ -8,7 +8,7 @@ pub loop-row-init : goal.loop-row-init
 loop-row-init c = rw (c.into_iter-row-iterator.ensures.into_iter_gives, c.chunks_exact-row-items.ensures.rest) (rows_none _ _ _ _ _ _, c.chunks_exact-row-items.ensures.size)
 
 pub loop-row-preserved : goal.loop-row-preserved
-loop-row-preserved c = let s = c.in-Some.ensures.steps in (rows_more c.loop-row.invariant.0 _ (omega (arith, c.requires)) s.1.0 (s.1.1 ∙ c.loop-row.invariant.1) c.answer_row-turned.ensures, s.0 ∙ c.loop-row.invariant.1)
+loop-row-preserved c = let s = c.in-Some.ensures.steps in (rows_more c.loop-row.invariant.0 c.in-Some.row.now (omega (arith, c.requires)) s.1.0 (s.1.1 ∙ c.loop-row.invariant.1) c.answer_row-turned.ensures, s.0 ∙ c.loop-row.invariant.1)
 
 pub returns-in-None-clause-taken : goal.returns-in-None-clause-taken
 returns-in-None-clause-taken c = rows_done c.loop-row.invariant.0 (λ z. omega (arith, c.in-None.ensures.steps.1.0, c.loop-row.invariant.1))
