@@ -14,7 +14,7 @@ use Rattle.lola.specs.Graph.{Occurs}
 use Rattle.lola.specs.Models.{value, refer}
 use Rattle.meaning.specs.Expressions.{ops, meaning}
 use Rattle.store.specs.declared.Frame.{Frame}
-use Rattle.store.specs.Store.{layout_of, held_of, part_of, place_in, Framed, Findable, Within}
+use Rattle.store.specs.Store.{layout_of, held_of, part_of, lent_in, place_in, Framed, Findable, Within}
 use Rattle.evaluate.specs.declared.Evaluated.{Evaluated}
 
 -- a word of v, and the value that the store has of v for the position q, by a frame's numbers
@@ -46,7 +46,7 @@ pub record InTurn (frame : Frame) (m : ℕ) : Type 0 where
   pub fits : (layout_of types (of kept)).words ≤ m
   pub framed : Framed types look kept streams n t frame
   pub position : frame.position ≡ j
-  pub lent : frame.lent ≡ m
+  pub lent : lent_in frame ≡ m
   pub inside : j < n
 
 -- what a reference of an equation refers to from the position j is in the store, where it lies in the trace

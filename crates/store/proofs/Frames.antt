@@ -13,7 +13,7 @@ use Rattle.limits.specs.Limits.{most_streams}
 use Rattle.run.specs.Words.{base}
 use Rattle.store.specs.declared.Part.{Part}
 use Rattle.store.specs.declared.Frame.{Frame}
-use Rattle.store.specs.Store.{no_part, newest_of, lap_for, Laid, Framed}
+use Rattle.store.specs.Store.{no_part, newest_of, lap_for, lent_in, lent_with, Laid, Framed}
 
 -- the newest position as the code finds it: `a` is the look-ahead
 module _ (look : List ℕ) (n t v : ℕ) {a p : ℕ} (ea : a ≡ of look v) where
@@ -64,3 +64,7 @@ module _ {types look kept : List ℕ} {n t v : ℕ} {parts : List Part} (long : 
 -- a frame has a position, and is of the same turn
 pub framed_at : {types look kept : List ℕ} {streams n t : ℕ} {frame : Frame} (p : ℕ) → Framed types look kept streams n t frame → Framed types look kept streams n t (record frame { position = p })
 framed_at p x = record { laid = x.laid; known = x.known }
+
+-- the number of words lent is the one that was noted
+pub lent_is : (frame : Frame) (words : ℕ) → lent_in (lent_with words frame) ≡ words
+lent_is frame words = refl

@@ -50,6 +50,13 @@ no_part = record { lap = 0; start = 0; kept = 0; kind = 0 }
 abbrev pub part_of : Frame → ℕ → Part
 part_of frame v = get_or frame.parts v no_part
 
+-- the number of words lent, as a turn's frame has it
+abbrev pub lent_in : Frame → ℕ
+lent_in frame = frame.lent
+
+abbrev pub lent_with : ℕ → Frame → Frame
+lent_with words frame = record frame { lent = words }
+
 -- the newest position that turn t has of v, where n rows are known: "that turn less [its] look-ahead", or the last one of the trace
 abbrev pub newest_of : (look : List ℕ) (n t v : ℕ) → ℕ
 newest_of look n t v = min (t - of look v) (n - 1)

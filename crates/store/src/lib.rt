@@ -4,7 +4,7 @@
 
 ghost use Rattle.std.specs.Prelude.{◌≡◌, ◌%◌, ◌≤◌, ◌<◌, length, get_or, set};
 ghost use Rattle.value.specs.Values.{reading_of, image_of};
-ghost use Rattle.store.specs.Store.{part_of, lap_for, Placeable, Findable, place_in, cleared_of, CanLay, Framed};
+ghost use Rattle.store.specs.Store.{part_of, lap_for, Placeable, Findable, place_in, cleared_of, lent_in, CanLay, Framed};
 
 use limits::STREAMS_MOST;
 use value::Value;
@@ -29,7 +29,7 @@ pub const NO_PART: Part = Part {
 };
 
 // A turn's frame: each stream's part, the rows known, the position of the equation that is evaluated, and the number of words lent.
-#[derive(Drop)]
+#[derive(Clone, Copy)]
 pub struct Frame {
     pub parts: [Part; STREAMS_MOST],
     pub known: u32,
@@ -114,7 +114,7 @@ pub fn lay(
     frame: &mut Frame,
 )
     requires { CanLay kept.now streams known }
-    ensures { Framed types.now look.now kept.now streams known t frame.new × (frame.new.lent ≡ words) }
+    ensures { Framed types.now look.now kept.now streams known t frame.new × (lent_in frame.new ≡ words) }
 {
     let mut start = 0;
     for v in 0..streams {
