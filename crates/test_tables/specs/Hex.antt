@@ -1,6 +1,6 @@
--- What a line of the input says: a comment, a table as hex digits, or nothing that can be read.
+-- What a line of the input says: a comment, a table as hex digits, or nothing that can be read; and where a line ends.
 -- The format is this program's own. Assumes nothing.
-use Rattle.std.specs.Prelude.{ℕ, zero, suc, ◌+◌, ◌-◌, ◌*◌, ◌/◌, ◌%◌, ◌≤◌, ◌&&◌, cond, if◌then◌else◌, Option, Some, None, option_and_then, option_map, List, [], ◌∷◌, ◌++◌, ltb, eqb, nat_le, length, get_or, take}
+use Rattle.std.specs.Prelude.{ℕ, zero, suc, ◌+◌, ◌-◌, ◌*◌, ◌/◌, ◌%◌, ◌≤◌, ◌<◌, ◌≡◌, ◌&&◌, cond, if◌then◌else◌, Option, Some, None, option_and_then, option_map, List, [], ◌∷◌, ◌++◌, ltb, eqb, nat_le, length, get_or, take}
 use Rattle.test_tables.specs.declared.Line.{Line}
 use Rattle.test_tables.specs.declared.Line.TheVariants.{Comment, Malformed, Table}
 
@@ -50,3 +50,10 @@ unfoldable pub said_of : (room : ℕ) → List ℕ → Said
 said_of room s =
     cond (eqb (length s) 0) malformed
     (cond (eqb (get_or s 0 0) 35) comment (cond (eqb (get_or s 0 0) 45) (cond (eqb (length s) 1) (table []) malformed) (digits_say room s)))
+
+-- the line that starts at a place ends at the first line feed from there on, or with the text
+pub record LineEnd (s : List ℕ) (at end : ℕ) : Type 0 where
+  pub behind : at ≤ end
+  pub inside : end ≤ length s
+  pub none_before : (k : ℕ) → k < end → at ≤ k → get_or s k 0 ≡ 10 → ⊥
+  pub feed : end < length s → get_or s end 0 ≡ 10

@@ -3,8 +3,8 @@
 // A line that starts with `#` is a comment, and the line `-` is the empty table; one that says nothing is reported as malformed.
 #![tactic(auto)]
 
-ghost use Rattle.std.specs.Prelude.{◌≡◌, ◌+◌, ◌*◌, ◌≤◌, ◌<◌, None, Some, MatchOption, IfSome, length, get_or, take};
-ghost use Rattle.test_tables.specs.Hex.{Within, said, said_of, digits_say, bytes_said, pair_of, digit_for};
+ghost use Rattle.std.specs.Prelude.{◌≡◌, ◌+◌, ◌*◌, ◌≤◌, ◌<◌, None, Some, MatchOption, IfSome, length, get_or, take, drop};
+ghost use Rattle.test_tables.specs.Hex.{LineEnd, Within, said, said_of, digits_say, bytes_said, pair_of, digit_for};
 ghost use Rattle.limits.specs.Limits.{most_streams};
 
 use announce::Checked;
@@ -33,12 +33,26 @@ fn main(rt: HostRuntime) -> io::Result<()> {
     answer_lines(&rt, &text[..n])
 }
 
-// Each line ends with a line feed or with the text.
 fn answer_lines(rt: &impl Print, text: &[u8]) -> io::Result<()> {
-    for line in text.split_inclusive(|b| *b == b'\n') {
-        answer_line(rt, line.strip_suffix(b"\n").unwrap_or(line))?;
+    let mut rest = text;
+    while !rest.is_empty() {
+        let (line, behind) = cut_line(rest);
+        answer_line(rt, line)?;
+        rest = behind;
     }
     Ok(())
+}
+
+// The first line of a text, which ends with a line feed or with the text, and what stands behind it.
+fn cut_line(text: &[u8]) -> (&[u8], &[u8])
+    ensures end { LineEnd text.now 0 (length result.0.now) }
+    ensures line { result.0.now ≡ take (length result.0.now) text.now }
+    ensures behind { result.1.now ≡ drop (length result.0.now + 1) text.now }
+{
+    match text.iter().position(|b| *b == b'\n') {
+        Some(end) => (&text[..end], &text[end + 1..]),
+        None => (text, &[]),
+    }
 }
 
 fn answer_line(rt: &impl Print, line: &[u8]) -> io::Result<()> {
@@ -88,7 +102,7 @@ fn read_digits(line: &[u8], table: &mut [u8]) -> Line
 }
 
 // Puts the bytes of the first `n` pairs, if each pair is one.
-#[tactic(auto, unfolding(crate::specs::Hex::bytes_said))]
+#[tactic(auto, using(crate::proofs::Hex::not_a_byte), unfolding(crate::specs::Hex::bytes_said))]
 fn put_bytes(line: &[u8], n: usize, table: &mut [u8]) -> Option<()>
     requires { (2 * n ≤ length line.now) × (n ≤ length table.old) }
     ensures { MatchOption result (bytes_said line.now n ≡ None) (λ _. bytes_said line.now n ≡ Some (take n table.new)) }
@@ -111,6 +125,7 @@ fn pair_at(line: &[u8], i: usize) -> Option<u8>
 }
 
 // The number of a hex digit of either case.
+#[tactic(auto, using(crate::proofs::Hex::digit_is))]
 fn digit(b: u8) -> Option<u32>
     ensures value { result ≡ digit_for b }
     ensures small { IfSome result (λ d. d < 16) }
