@@ -31,4 +31,4 @@ number_of_best (negsuc n) = go (ℕ_discrete n 9223372036854775807)
 -- `square_row`; the lengths are those of the array's type
 pub square_row_once : {f : ℕ → Best} {a b : List ℤ} → length a ≡ most_streams → length b ≡ most_streams →
     ((j : ℕ) → j < most_streams → at a j ≡ f j) → ((j : ℕ) → j < most_streams → at b j ≡ f j) → a ≡ b
-square_row_once {a = a} {b = b} p q f g = ext_get_or (pos 0) a b (p ∙ sym q) (λ j l. let h : j < most_streams = omega arith in sym (number_of_best _) ∙ ap number_of (f j h ∙ sym (g j h)) ∙ number_of_best _)
+square_row_once {a = a} {b = b} p q f g = ext_get_or NO a b (p ∙ sym q) (λ j l. let h : j < most_streams = omega arith in sym (number_of_best _) ∙ ap number_of (f j h ∙ sym (g j h)) ∙ number_of_best _)

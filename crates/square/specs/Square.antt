@@ -17,11 +17,20 @@ best (negsuc n) = cond (eqb n 9223372036854775807) none (some (negsuc n))
 
 -- the entry j of a row
 abbrev pub at : List ℤ → ℕ → Best
-at l j = best (get_or l j (pos 0))
+at l j = best (get_or l j NO)
 
 -- the square's cell
 abbrev pub cell : List (List ℤ) → ℕ → ℕ → Best
 cell d i j = at (get_or d i []) j
+
+-- the entry j of a row that is lent, for a j below its length: behind a reference the check knows no length, and has a read past it give 0.
+-- Below the length it is `at` (`lent_at_is`, proofs/Rows.antt).
+abbrev pub lent_at : List ℤ → ℕ → Best
+lent_at l j = best (get_or l j (pos 0))
+
+-- the cell of a square that is lent, the same way
+abbrev pub lent_cell : List (List ℤ) → ℕ → ℕ → Best
+lent_cell d i j = lent_at (get_or d i []) j
 
 -- there and from -(2 ^ n) to 2 ^ n - 1, or not there
 pub data Small (n : ℕ) : Best → Type 0 where
@@ -31,6 +40,10 @@ pub data Small (n : ℕ) : Best → Type 0 where
 -- every cell of the square is small
 abbrev pub AllSmall : ℕ → List (List ℤ) → Type 0
 AllSmall n d = (i j : ℕ) → i < most_streams → j < most_streams → Small n (cell d i j)
+
+-- the same of a square that is lent
+abbrev pub LentSmall : ℕ → List (List ℤ) → Type 0
+LentSmall n d = (i j : ℕ) → i < most_streams → j < most_streams → Small n (lent_cell d i j)
 
 -- the weight that a number of `rise_of` stands for
 unfoldable pub rise_best : ℕ → Best

@@ -2,8 +2,8 @@
 -- Assumes nothing.
 use Rattle.std.proofs.Common.{◌≡◌, ℕ, ◌<◌, length}
 use Rattle.limits.specs.Limits.{most_streams}
-use Rattle.square.specs.Square.{at, cell}
+use Rattle.square.specs.Square.{lent_at, lent_cell}
 use Rattle.square.proofs.edges_into.Given as goal
 
 abbrev pub invariant-loop-i : goal.invariant-loop-i
-invariant-loop-i l = (length l.out ≡ most_streams) × ((m : ℕ) → m < l.i → at l.out m ≡ cell l.a m l.v)
+invariant-loop-i l = (length l.out ≡ most_streams) × ((m : ℕ) → m < l.i → lent_at l.out m ≡ lent_cell l.a m l.v)

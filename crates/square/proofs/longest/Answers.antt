@@ -3,7 +3,7 @@
 use Rattle.std.proofs.Common.{◌≡◌, ℕ, ◌+◌, ◌<◌, refl, sym, subst, ◌∙◌, arith, add-one}
 use Rattle.limits.specs.Limits.{most_streams}
 use Rattle.walks.specs.Longest.{Best, relax_b, through}
-use Rattle.square.specs.Square.{cell, Small}
+use Rattle.square.specs.Square.{lent_cell, Small}
 use Rattle.square.proofs.Sizes.{small_more, small_through}
 use Rattle.square.proofs.longest.Goals as goal
 
@@ -20,7 +20,7 @@ loop-k-init c i j h g = refl
 pub relax-requires : goal.relax-requires
 relax-requires c =
     let l = c.loop-k in
-    (omega arith, λ i j h g. subst (Small 61) (sym (l.invariant i j h g)) (small_more {n = 7 + l.k} (omega arith) (small_through (cell c.args.a.now) most_streams 7 c.requires.1 l.k (omega arith) i j h g)))
+    (omega arith, λ i j h g. subst (Small 61) (sym (l.invariant i j h g)) (small_more {n = 7 + l.k} (omega arith) (small_through (lent_cell c.args.a.now) most_streams 7 c.requires.1 l.k (omega arith) i j h g)))
 
 pub loop-k-preserved : goal.loop-k-preserved
-loop-k-preserved c = more (cell c.args.a.now) (cell c.loop-k.out) (cell c.relax.new.d) c.loop-k.k (omega arith) c.loop-k.invariant c.relax.ensures
+loop-k-preserved c = more (lent_cell c.args.a.now) (lent_cell c.loop-k.out) (lent_cell c.relax.new.d) c.loop-k.k (omega arith) c.loop-k.invariant c.relax.ensures

@@ -3,8 +3,8 @@
 use Rattle.std.proofs.Common.{◌≡◌, ℕ, ◌<◌}
 use Rattle.limits.specs.Limits.{most_streams}
 use Rattle.walks.specs.Longest.{through}
-use Rattle.square.specs.Square.{cell}
+use Rattle.square.specs.Square.{lent_cell}
 use Rattle.square.proofs.longest.Given as goal
 
 abbrev pub invariant-loop-k : goal.invariant-loop-k
-invariant-loop-k l = (i j : ℕ) → i < most_streams → j < most_streams → cell l.out i j ≡ through (cell l.a) l.k i j
+invariant-loop-k l = (i j : ℕ) → i < most_streams → j < most_streams → lent_cell l.out i j ≡ through (lent_cell l.a) l.k i j

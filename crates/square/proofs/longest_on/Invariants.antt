@@ -2,8 +2,8 @@
 -- Assumes nothing.
 use Rattle.std.proofs.Common.{◌≡◌}
 use Rattle.walks.specs.Longest.{plus, sup_to}
-use Rattle.square.specs.Square.{best, at}
+use Rattle.square.specs.Square.{best, lent_at}
 use Rattle.square.proofs.longest_on.Given as goal
 
 abbrev pub invariant-loop-m : goal.invariant-loop-m
-invariant-loop-m l = best l.most ≡ sup_to (λ x. plus (at l.row x) (at l.line x)) l.m
+invariant-loop-m l = best l.most ≡ sup_to (λ x. plus (lent_at l.row x) (lent_at l.line x)) l.m

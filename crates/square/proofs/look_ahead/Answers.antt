@@ -7,14 +7,14 @@ use mir.Syntax.{w64}
 use mir.Facts.{to_z-of_z}
 use Rattle.std.specs.Int.{int_max}
 use Rattle.walks.specs.Longest.{look_to}
-use Rattle.square.specs.Square.{at}
+use Rattle.square.specs.Square.{lent_at}
 use Rattle.square.proofs.Cells.{grow}
 use Rattle.square.proofs.look_ahead.Goals as goal
 
 -- one more of the row
-more : (l : List ℤ) (j : ℕ) → int_max (pos (look_to (at l) j)) (get_or l j (pos 0)) ≡ pos (look_to (at l) (j + 1))
+more : (l : List ℤ) (j : ℕ) → int_max (pos (look_to (lent_at l) j)) (get_or l j (pos 0)) ≡ pos (look_to (lent_at l) (j + 1))
 unfolding look_to
-more l j = rw add-one (grow (look_to (at l) j) (get_or l j (pos 0)))
+more l j = rw add-one (grow (look_to (lent_at l) j) (get_or l j (pos 0)))
 
 pub loop-total-init : goal.loop-total-init
 unfolding look_to

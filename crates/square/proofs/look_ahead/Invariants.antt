@@ -2,8 +2,8 @@
 -- Assumes nothing.
 use Rattle.std.proofs.Common.{◌≡◌, pos}
 use Rattle.walks.specs.Longest.{look_to}
-use Rattle.square.specs.Square.{at}
+use Rattle.square.specs.Square.{lent_at}
 use Rattle.square.proofs.look_ahead.Given as goal
 
 abbrev pub invariant-loop-total : goal.invariant-loop-total
-invariant-loop-total l = l.most ≡ pos (look_to (at l.row) l.total-index)
+invariant-loop-total l = l.most ≡ pos (look_to (lent_at l.row) l.total-index)
