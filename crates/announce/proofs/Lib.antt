@@ -3,3 +3,4 @@ pub mod Numbers
 pub mod Scans
 pub mod Acceptance
 pub mod Room
+pub mod Determined

@@ -153,7 +153,7 @@ fn weigh_scan(table: &[u8], scan: Scan) -> Result<Announced, Refusal>
     ensures { checked_as result ≡ announced table.now }
 {
     let weights = weights_of(table, scan);
-    match square::weigh(&square_of(&weights.rise), scan.streams) {
+    match square::weigh(square_of(&weights.rise), scan.streams) {
         Ok(look) => numbers_of(scan, look, &weights.fall),
         Err(place) => Err(Fault::WrongLoop.at(place)),
     }
@@ -161,7 +161,7 @@ fn weigh_scan(table: &[u8], scan: Scan) -> Result<Announced, Refusal>
 
 // The check of a table: where it is accepted, look-ahead and kept number of each stream, store words, room and closing turns.
 pub fn check_table(table: &[u8]) -> Result<Announced, Refusal>
-    ensures { checked_as result ≡ announced table.now }
+    ensures { (checked_as result ≡ announced table.now) × Answers table.now (checked_as result) }
 {
     let scan = table::scan_table(table)?;
     weigh_scan(table, scan)

@@ -5,4 +5,4 @@ use Rattle.announce.proofs.Acceptance.{slice_answers}
 use Rattle.announce.proofs.check.Goals as goal
 
 pub returns : goal.returns
-returns c = slice_answers c.type_inv.table (c.from.ensures ∙ c.check_table.ensures)
+returns c = slice_answers c.type_inv.table (c.from.ensures ∙ c.check_table.ensures.0)

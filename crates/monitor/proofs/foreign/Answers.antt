@@ -6,7 +6,7 @@ use Rattle.monitor.proofs.Refusals.{foreign_10, foreign_table}
 use Rattle.monitor.proofs.foreign.Goals as goal
 
 pub returns-in-Ok : goal.returns-in-Ok
-returns-in-Ok c = rw c.at.ensures (foreign_10 _ c.in-Ok.ensures refl)
+returns-in-Ok c = rw c.at.ensures (foreign_10 _ c.in-Ok.ensures.0 refl)
 
 pub returns-in-Err : goal.returns-in-Err
-returns-in-Err c = foreign_table _ c.in-Err.ensures (number_some c.in-Err.refusal.fault)
+returns-in-Err c = foreign_table _ c.in-Err.ensures.0 (number_some c.in-Err.refusal.fault)
