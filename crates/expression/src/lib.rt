@@ -94,11 +94,37 @@ fn other_fault(t: u16) -> Fault
     }
 }
 
-// A place in a table is below it.
+// A scan's answer is one number: the place behind what was scanned; or, so many places further for each number, the place of a fault.
 const PLACES: usize = 65536;
 
-// What a scan answers: the place behind what was scanned, or a refusal. It is one number, the place or the fault's number times PLACES and its
-// place, since a Result costs the scan a tenth more instructions.
+pub fn refused(number: u8, place: usize) -> usize
+    requires { place < places }
+    ensures { result ≡ number * places + place }
+{
+    usize::from(number) * PLACES + place
+}
+
+// Whether an answer is a fault, its number and its place.
+pub fn refuses(answer: usize) -> bool
+    ensures { result ≡ leb places answer }
+{
+    PLACES <= answer
+}
+
+pub fn number_of(answer: usize) -> u8
+    requires { answer < 256 * places }
+    ensures { result ≡ answer / places }
+{
+    (answer / PLACES) as u8
+}
+
+pub fn place_of(answer: usize) -> usize
+    ensures { result ≡ answer % places }
+{
+    answer % PLACES
+}
+
+// What a scan answers. It is that one number, since a Result costs the scan a tenth more instructions.
 #[derive(Clone, Copy)]
 pub struct Scanned {
     code: usize,
@@ -120,7 +146,7 @@ impl Scanned {
         ensures { result.code ≡ number_for fault * places + place }
     {
         Scanned {
-            code: usize::from(u8::from(fault)) * PLACES + place,
+            code: refused(u8::from(fault), place),
         }
     }
 
@@ -128,15 +154,15 @@ impl Scanned {
     fn refuses(self) -> bool
         ensures { result ≡ leb places self.code }
     {
-        PLACES <= self.code
+        refuses(self.code)
     }
 
     // The place behind, or the refusal.
     pub fn outcome(self) -> Result<usize, Refusal>
         ensures { Outcome self.code result }
     {
-        match Fault::try_from((self.code / PLACES) as u8) {
-            Ok(fault) => Err(fault.at(self.code % PLACES)),
+        match Fault::try_from(number_of(self.code)) {
+            Ok(fault) => Err(fault.at(place_of(self.code))),
             Err(_) => Ok(self.code),
         }
     }
