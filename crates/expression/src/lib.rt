@@ -150,11 +150,19 @@ impl Scanned {
         }
     }
 
-    // Whether there is a fault; where there is none the code is the place behind.
+    // Whether there is a fault.
     fn refuses(self) -> bool
         ensures { result ≡ leb places self.code }
     {
         refuses(self.code)
+    }
+
+    // The place behind, where there is no fault.
+    fn place(self) -> usize
+        requires { self.code < places }
+        ensures { result ≡ self.code }
+    {
+        self.code
     }
 
     // The place behind, or the refusal.
@@ -299,18 +307,18 @@ pub fn scan_operator(
         return second;
     }
     let rest = node::rest_type(operands, first, wanted);
-    let third = if node::leaf_stands(table, second.code) {
-        scan_leaf(table, kinds, seen, rest, second.code)
+    let third = if node::leaf_stands(table, second.place()) {
+        scan_leaf(table, kinds, seen, rest, second.place())
     } else {
-        scan_operator(table, kinds, seen, rest, second.code, levels - 1)
+        scan_operator(table, kinds, seen, rest, second.place(), levels - 1)
     };
     if operands == 2 || third.refuses() {
         return third;
     }
-    if node::leaf_stands(table, third.code) {
-        scan_leaf(table, kinds, seen, rest, third.code)
+    if node::leaf_stands(table, third.place()) {
+        scan_leaf(table, kinds, seen, rest, third.place())
     } else {
-        scan_operator(table, kinds, seen, rest, third.code, levels - 1)
+        scan_operator(table, kinds, seen, rest, third.place(), levels - 1)
     }
 }
 

@@ -14,8 +14,8 @@ use Rattle.expression.proofs.+scan_operator.Goals.{then-leaf_stands, else-leaf_s
 use Rattle.expression.proofs.+scan_operator.Goals.{then-leaf_stands-2, else-leaf_stands-2, then-operands-eq2-via-then-operands-eq2, then-operands-eq2-via-else-operands-eq2+then-refuses-2}
 
 -- the next operand can be scanned where the scan of the one before ended
-can_next : {kinds seen before after : List (List ℕ)} {s : List ℕ} {l w at op operands first rest next : ℕ} {p : Parsed} (c : CanScan kinds seen s w at) → Here l c.types s w at op operands first → Scanning p s c.types before after next → next < places → rest ≡ rest_of operands first w → CanScan kinds after s rest next
-can_next c h x small e = can_rest h c.wants c x.left e (scan_ended c.few x small).behind
+can_next : {kinds seen before after : List (List ℕ)} {s : List ℕ} {l w at op operands first rest next behind : ℕ} {p : Parsed} (c : CanScan kinds seen s w at) → Here l c.types s w at op operands first → Scanning p s c.types before after next → next < places → rest ≡ rest_of operands first w → behind ≡ next → CanScan kinds after s rest behind
+can_next c h x small e b = rw b (can_rest h c.wants c x.left e (scan_ended c.few x small).behind)
 
 -- ---- what is known once the operator is read
 
@@ -37,8 +37,8 @@ second_small t c = leb-false _ _ (sym c.refuses.ensures ∙ c.if-refuses.false)
 
 second_scan : (t : ℕ) (c : Joined-leaf_stands-2 t) → (ts : List ℕ) → Seen ts c.if-leaf_stands.seen → Scanning (parse (c.args.levels - 1) ts c.args.table.now c.rest_type-rest.result c.if-leaf_stands.second.code) c.args.table.now ts c.if-leaf_stands.seen c.if-leaf_stands-2.seen c.if-leaf_stands-2.third.code
 second_scan t c = λ ts x. elim c.if-leaf_stands-2.branch [
-  | then-leaf_stands-2 w ↦ rw (w.seen-is, w.third-is) (at_level _ _ _ (omega (arith, c.requires.1.1, c.if-levels-eq1.false)) (λ m. w.scan_leaf-third.ensures ts m x))
-  | else-leaf_stands-2 w ↦ rw (w.seen-is, w.third-is) (w.scan_operator-third.ensures ts x)
+  | then-leaf_stands-2 w ↦ rw (w.seen-is, w.third-is, ← w.place-then-leaf_stands-2.ensures) (at_level _ _ _ (omega (arith, c.requires.1.1, c.if-levels-eq1.false)) (λ m. w.scan_leaf-third.ensures ts m x))
+  | else-leaf_stands-2 w ↦ rw (w.seen-is, w.third-is, ← w.place-else-leaf_stands-2.ensures) (w.scan_operator-third.ensures ts x)
 ]
 
 third_small : (t : ℕ) (c : Else-refuses-2 t) → c.if-leaf_stands-2.third.code < places
@@ -101,14 +101,14 @@ returns-then-operands-eq1 t c = λ ts x.
 pub scan_leaf-third-requires : goal.scan_leaf-third-requires
 scan_leaf-third-requires t c =
     let one = first_scan t (goal.at.scan_leaf-third-requires t c).Joined-leaf_stands c.requires.0.types c.requires.0.rows in
-    let can = can_next c.requires.0 (is_here t (goal.at.scan_leaf-third-requires t c).After-operand_of-first c.requires.0.types) one (second_small t (goal.at.scan_leaf-third-requires t c).Else-refuses) c.rest_type-rest.ensures in
-    (can, sym c.leaf_stands-2.ensures ∙ c.if-leaf_stands-2.true)
+    let can = can_next c.requires.0 (is_here t (goal.at.scan_leaf-third-requires t c).After-operand_of-first c.requires.0.types) one (second_small t (goal.at.scan_leaf-third-requires t c).Else-refuses) c.rest_type-rest.ensures c.place-then-leaf_stands-2.ensures in
+    (can, rw (c.place-then-leaf_stands-2.ensures ∙ sym c.place.ensures) (sym c.leaf_stands-2.ensures ∙ c.if-leaf_stands-2.true))
 
 pub scan_operator-third-requires : goal.scan_operator-third-requires
 scan_operator-third-requires t c =
     let one = first_scan t (goal.at.scan_operator-third-requires t c).Joined-leaf_stands c.requires.0.types c.requires.0.rows in
-    let can = can_next c.requires.0 (is_here t (goal.at.scan_operator-third-requires t c).After-operand_of-first c.requires.0.types) one (second_small t (goal.at.scan_operator-third-requires t c).Else-refuses) c.rest_type-rest.ensures in
-    (omega (arith, c.decreases, c.requires.1.1), (can, (sym c.leaf_stands-2.ensures ∙ c.if-leaf_stands-2.false, omega (arith, c.requires.1.1, c.if-levels-eq1.false))))
+    let can = can_next c.requires.0 (is_here t (goal.at.scan_operator-third-requires t c).After-operand_of-first c.requires.0.types) one (second_small t (goal.at.scan_operator-third-requires t c).Else-refuses) c.rest_type-rest.ensures c.place-else-leaf_stands-2.ensures in
+    (omega (arith, c.decreases, c.requires.1.1), (can, (rw (c.place-else-leaf_stands-2.ensures ∙ sym c.place.ensures) (sym c.leaf_stands-2.ensures ∙ c.if-leaf_stands-2.false), omega (arith, c.requires.1.1, c.if-levels-eq1.false))))
 
 pub returns-then-operands-eq2 : goal.returns-then-operands-eq2
 returns-then-operands-eq2 t c = λ ts x.
@@ -125,15 +125,15 @@ pub scan_leaf-requires : goal.scan_leaf-requires
 scan_leaf-requires t c =
     let one = first_scan t (goal.at.scan_leaf-requires t c).Joined-leaf_stands c.requires.0.types c.requires.0.rows in
     let two = second_scan t (goal.at.scan_leaf-requires t c).Joined-leaf_stands-2 c.requires.0.types one.left in
-    let can = can_next c.requires.0 (is_here t (goal.at.scan_leaf-requires t c).After-operand_of-first c.requires.0.types) two (third_small t (goal.at.scan_leaf-requires t c).Else-refuses-2) c.rest_type-rest.ensures in
-    (can, sym c.leaf_stands-3.ensures ∙ c.if-leaf_stands-3.true)
+    let can = can_next c.requires.0 (is_here t (goal.at.scan_leaf-requires t c).After-operand_of-first c.requires.0.types) two (third_small t (goal.at.scan_leaf-requires t c).Else-refuses-2) c.rest_type-rest.ensures c.place-then-leaf_stands-3.ensures in
+    (can, rw (c.place-then-leaf_stands-3.ensures ∙ sym c.place-2.ensures) (sym c.leaf_stands-3.ensures ∙ c.if-leaf_stands-3.true))
 
 pub scan_operator-requires : goal.scan_operator-requires
 scan_operator-requires t c =
     let one = first_scan t (goal.at.scan_operator-requires t c).Joined-leaf_stands c.requires.0.types c.requires.0.rows in
     let two = second_scan t (goal.at.scan_operator-requires t c).Joined-leaf_stands-2 c.requires.0.types one.left in
-    let can = can_next c.requires.0 (is_here t (goal.at.scan_operator-requires t c).After-operand_of-first c.requires.0.types) two (third_small t (goal.at.scan_operator-requires t c).Else-refuses-2) c.rest_type-rest.ensures in
-    (omega (arith, c.decreases, c.requires.1.1), (can, (sym c.leaf_stands-3.ensures ∙ c.if-leaf_stands-3.false, omega (arith, c.requires.1.1, c.if-levels-eq1.false))))
+    let can = can_next c.requires.0 (is_here t (goal.at.scan_operator-requires t c).After-operand_of-first c.requires.0.types) two (third_small t (goal.at.scan_operator-requires t c).Else-refuses-2) c.rest_type-rest.ensures c.place-else-leaf_stands-3.ensures in
+    (omega (arith, c.decreases, c.requires.1.1), (can, (rw (c.place-else-leaf_stands-3.ensures ∙ sym c.place-2.ensures) (sym c.leaf_stands-3.ensures ∙ c.if-leaf_stands-3.false), omega (arith, c.requires.1.1, c.if-levels-eq1.false))))
 
 pub returns-then-leaf_stands-3 : goal.returns-then-leaf_stands-3
 returns-then-leaf_stands-3 t c = λ ts x.
@@ -141,7 +141,7 @@ returns-then-leaf_stands-3 t c = λ ts x.
     let one = first_scan t (goal.at.returns-then-leaf_stands-3 t c).Joined-leaf_stands ts x in
     let two = second_scan t (goal.at.returns-then-leaf_stands-3 t c).Joined-leaf_stands-2 ts one.left in
     three_give h c.requires.0.wants c.requires.0.few one c.rest_type-rest.ensures (second_small t (goal.at.returns-then-leaf_stands-3 t c).Else-refuses) c.if-operands-eq1.false two (third_small t (goal.at.returns-then-leaf_stands-3 t c).Else-refuses-2) c.if-operands-eq2.false
-    (at_level _ _ _ (omega (arith, c.requires.1.1, c.if-levels-eq1.false)) (λ m. c.scan_leaf.ensures ts m two.left))
+    (at_level _ _ _ (omega (arith, c.requires.1.1, c.if-levels-eq1.false)) (λ m. rw (← c.place-then-leaf_stands-3.ensures) (c.scan_leaf.ensures ts m two.left)))
 
 pub returns-else-leaf_stands-3 : goal.returns-else-leaf_stands-3
 returns-else-leaf_stands-3 t c = λ ts x.
@@ -149,4 +149,4 @@ returns-else-leaf_stands-3 t c = λ ts x.
     let one = first_scan t (goal.at.returns-else-leaf_stands-3 t c).Joined-leaf_stands ts x in
     let two = second_scan t (goal.at.returns-else-leaf_stands-3 t c).Joined-leaf_stands-2 ts one.left in
     three_give h c.requires.0.wants c.requires.0.few one c.rest_type-rest.ensures (second_small t (goal.at.returns-else-leaf_stands-3 t c).Else-refuses) c.if-operands-eq1.false two (third_small t (goal.at.returns-else-leaf_stands-3 t c).Else-refuses-2) c.if-operands-eq2.false
-    (c.scan_operator.ensures ts two.left)
+    (rw (← c.place-else-leaf_stands-3.ensures) (c.scan_operator.ensures ts two.left))
