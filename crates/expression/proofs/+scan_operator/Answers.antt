@@ -26,7 +26,7 @@ is_here t c = λ ts. here _ ts _ _ _ c.requires.1.0 c.requires.1.1 c.requires.0.
 
 first_scan : (t : ℕ) (c : Joined-leaf_stands t) → (ts : List ℕ) → Seen ts c.args.seen.now → Scanning (parse (c.args.levels - 1) ts c.args.table.now c.operand_of-first.result (c.args.at + 1)) c.args.table.now ts c.args.seen.now c.if-leaf_stands.seen c.if-leaf_stands.second.code
 first_scan t c = λ ts x. elim c.if-leaf_stands.branch [
-  | then-leaf_stands w ↦ rw (w.seen-is, w.second-is) (at_level _ _ _ (omega (arith, c.requires.1.1, c.if-levels-eq1.false)) (λ m. w.scan_leaf-second.ensures ts m x))
+  | then-leaf_stands w ↦ rw (w.seen-is, w.second-is) (at_level _ _ _ (omega arith) (λ m. w.scan_leaf-second.ensures ts m x))
   | else-leaf_stands w ↦ rw (w.seen-is, w.second-is) (w.scan_operator-second.ensures ts x)
 ]
 
@@ -37,7 +37,7 @@ second_small t c = leb-false _ _ (sym c.refuses.ensures ∙ c.if-refuses.false)
 
 second_scan : (t : ℕ) (c : Joined-leaf_stands-2 t) → (ts : List ℕ) → Seen ts c.if-leaf_stands.seen → Scanning (parse (c.args.levels - 1) ts c.args.table.now c.rest_type-rest.result c.if-leaf_stands.second.code) c.args.table.now ts c.if-leaf_stands.seen c.if-leaf_stands-2.seen c.if-leaf_stands-2.third.code
 second_scan t c = λ ts x. elim c.if-leaf_stands-2.branch [
-  | then-leaf_stands-2 w ↦ rw (w.seen-is, w.third-is, ← w.place-then-leaf_stands-2.ensures) (at_level _ _ _ (omega (arith, c.requires.1.1, c.if-levels-eq1.false)) (λ m. w.scan_leaf-third.ensures ts m x))
+  | then-leaf_stands-2 w ↦ rw (w.seen-is, w.third-is, ← w.place-then-leaf_stands-2.ensures) (at_level _ _ _ (omega arith) (λ m. w.scan_leaf-third.ensures ts m x))
   | else-leaf_stands-2 w ↦ rw (w.seen-is, w.third-is, ← w.place-else-leaf_stands-2.ensures) (w.scan_operator-third.ensures ts x)
 ]
 
@@ -87,7 +87,7 @@ pub scan_leaf-second-requires : goal.scan_leaf-second-requires
 scan_leaf-second-requires t c = (can_first (is_here t (goal.at.scan_leaf-second-requires t c).After-operand_of-first c.requires.0.types) c.requires.0.wants c.requires.0 c.requires.0.rows, sym c.leaf_stands.ensures ∙ c.if-leaf_stands.true)
 
 pub scan_operator-second-requires : goal.scan_operator-second-requires
-scan_operator-second-requires t c = (omega (arith, c.decreases, c.requires.1.1), (can_first (is_here t (goal.at.scan_operator-second-requires t c).After-operand_of-first c.requires.0.types) c.requires.0.wants c.requires.0 c.requires.0.rows, (sym c.leaf_stands.ensures ∙ c.if-leaf_stands.false, omega (arith, c.requires.1.1, c.if-levels-eq1.false))))
+scan_operator-second-requires t c = (omega (arith, c.decreases, c.requires.1.1), (can_first (is_here t (goal.at.scan_operator-second-requires t c).After-operand_of-first c.requires.0.types) c.requires.0.wants c.requires.0 c.requires.0.rows, (sym c.leaf_stands.ensures ∙ c.if-leaf_stands.false, omega arith)))
 
 pub returns-then-operands-eq1 : goal.returns-then-operands-eq1
 returns-then-operands-eq1 t c = λ ts x.
@@ -108,7 +108,7 @@ pub scan_operator-third-requires : goal.scan_operator-third-requires
 scan_operator-third-requires t c =
     let one = first_scan t (goal.at.scan_operator-third-requires t c).Joined-leaf_stands c.requires.0.types c.requires.0.rows in
     let can = can_next c.requires.0 (is_here t (goal.at.scan_operator-third-requires t c).After-operand_of-first c.requires.0.types) one (second_small t (goal.at.scan_operator-third-requires t c).Else-refuses) c.rest_type-rest.ensures c.place-else-leaf_stands-2.ensures in
-    (omega (arith, c.decreases, c.requires.1.1), (can, (rw (c.place-else-leaf_stands-2.ensures ∙ sym c.place.ensures) (sym c.leaf_stands-2.ensures ∙ c.if-leaf_stands-2.false), omega (arith, c.requires.1.1, c.if-levels-eq1.false))))
+    (omega (arith, c.decreases, c.requires.1.1), (can, (rw (c.place-else-leaf_stands-2.ensures ∙ sym c.place.ensures) (sym c.leaf_stands-2.ensures ∙ c.if-leaf_stands-2.false), omega arith)))
 
 pub returns-then-operands-eq2 : goal.returns-then-operands-eq2
 returns-then-operands-eq2 t c = λ ts x.
@@ -133,7 +133,7 @@ scan_operator-requires t c =
     let one = first_scan t (goal.at.scan_operator-requires t c).Joined-leaf_stands c.requires.0.types c.requires.0.rows in
     let two = second_scan t (goal.at.scan_operator-requires t c).Joined-leaf_stands-2 c.requires.0.types one.left in
     let can = can_next c.requires.0 (is_here t (goal.at.scan_operator-requires t c).After-operand_of-first c.requires.0.types) two (third_small t (goal.at.scan_operator-requires t c).Else-refuses-2) c.rest_type-rest.ensures c.place-else-leaf_stands-3.ensures in
-    (omega (arith, c.decreases, c.requires.1.1), (can, (rw (c.place-else-leaf_stands-3.ensures ∙ sym c.place-2.ensures) (sym c.leaf_stands-3.ensures ∙ c.if-leaf_stands-3.false), omega (arith, c.requires.1.1, c.if-levels-eq1.false))))
+    (omega (arith, c.decreases, c.requires.1.1), (can, (rw (c.place-else-leaf_stands-3.ensures ∙ sym c.place-2.ensures) (sym c.leaf_stands-3.ensures ∙ c.if-leaf_stands-3.false), omega arith)))
 
 pub returns-then-leaf_stands-3 : goal.returns-then-leaf_stands-3
 returns-then-leaf_stands-3 t c = λ ts x.
@@ -141,7 +141,7 @@ returns-then-leaf_stands-3 t c = λ ts x.
     let one = first_scan t (goal.at.returns-then-leaf_stands-3 t c).Joined-leaf_stands ts x in
     let two = second_scan t (goal.at.returns-then-leaf_stands-3 t c).Joined-leaf_stands-2 ts one.left in
     three_give h c.requires.0.wants c.requires.0.few one c.rest_type-rest.ensures (second_small t (goal.at.returns-then-leaf_stands-3 t c).Else-refuses) c.if-operands-eq1.false two (third_small t (goal.at.returns-then-leaf_stands-3 t c).Else-refuses-2) c.if-operands-eq2.false
-    (at_level _ _ _ (omega (arith, c.requires.1.1, c.if-levels-eq1.false)) (λ m. rw (← c.place-then-leaf_stands-3.ensures) (c.scan_leaf.ensures ts m two.left)))
+    (at_level _ _ _ (omega arith) (λ m. rw (← c.place-then-leaf_stands-3.ensures) (c.scan_leaf.ensures ts m two.left)))
 
 pub returns-else-leaf_stands-3 : goal.returns-else-leaf_stands-3
 returns-else-leaf_stands-3 t c = λ ts x.
