@@ -26,6 +26,7 @@ OFFSET_MOST             AHEAD_MOST      most_ahead
 STORE_MOST              STORE_MOST      most_words
 ROWS_MOST               ROWS_MOST       most_rows
 CLOSING_MOST            -               most_look
+-                       PAIRS_MOST      most_pairs
 -                       RISE_OF_ZERO    rise_of_zero
 -                       FALL_OF_ZERO    fall_of_zero
 -                       -               most_note

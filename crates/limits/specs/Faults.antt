@@ -28,10 +28,10 @@ number_for ShortOutput = short_output
 abbrev pub Numbers : Fault → ℕ → Type 0
 Numbers f n = n ≡ number_for f
 
--- what that of a byte into a fault gives: only 0 and what is above 16 are no fault's number
+-- what that of a byte into a fault gives: only 0 and what is above 16 are no fault's number, and then the error holds it
 abbrev pub Named : ℕ → Result Fault UnknownFault → Type 0
 Named n (Ok f) = n ≡ number_for f
-Named n (Err _) = 1 ≤ n → 16 < n
+Named n (Err e) = (n ≡ e.0) × (1 ≤ n → 16 < n)
 
 -- A definition gives the number of a fault, 0 where there is none: what a test answers that looks for it.
 abbrev pub Tested : Result (Unit {0}) Fault → ℕ → Type 0

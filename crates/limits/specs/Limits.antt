@@ -13,6 +13,10 @@ most_table = 4096
 abbrev pub most_streams : ℕ
 most_streams = 32
 
+-- the pairs of two streams
+abbrev pub most_pairs : ℕ
+most_pairs = most_streams * most_streams
+
 -- "I and O at least 1": so each is at most S less 1
 abbrev pub most_outputs : ℕ
 most_outputs = most_streams - 1

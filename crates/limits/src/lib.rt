@@ -13,6 +13,9 @@ pub const TABLE_MOST: usize = 4096;
 // "S at most 32": an array by stream has as many entries
 pub const STREAMS_MOST: usize = 32;
 
+// the pairs of two streams
+pub const PAIRS_MOST: usize = STREAMS_MOST * STREAMS_MOST;
+
 // "I and O at least 1": so each is at most S less 1
 pub const OUTPUTS_MOST: usize = STREAMS_MOST - 1;
 
