@@ -2,9 +2,9 @@
 // behind it, or the place where the text leaves what may stand there. It assumes nothing.
 #![tactic(auto)]
 
-ghost use Rattle.std.specs.Prelude.{◌≤◌, ◌<◌, MatchOption, MatchResult, length};
+ghost use Rattle.std.specs.Prelude.{◌≡◌, ◌≤◌, ◌<◌, MatchOption, MatchResult, length};
 ghost use Rattle.shapes.specs.Numbers.{number, offset, hex_one, times};
-ghost use Rattle.shapes.specs.Places.{Lost};
+ghost use Rattle.shapes.specs.Places.{byte_at, Lost};
 ghost use Rattle.source.specs.Words.{many_words};
 ghost use Rattle.words.specs.Rows.{Among};
 ghost use Rattle.spell.specs.Answers.{Alike, WordRead, NumberRead, OffsetRead, NoDigit, DigitRead, HexRead};
@@ -14,6 +14,16 @@ ghost use Rattle.spell.specs.Answers.{Alike, WordRead, NumberRead, OffsetRead, N
 pub struct Spelt<T> {
     pub what: T,
     pub next: usize,
+}
+
+// The byte at a place, 256 behind the last one.
+pub fn byte_at(text: &[u8], at: usize) -> u16
+    ensures { result ≡ byte_at text.now at }
+{
+    match text.get(at) {
+        Some(&b) => u16::from(b),
+        None => 256,
+    }
 }
 
 // How many bytes two texts begin with alike.

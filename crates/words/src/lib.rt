@@ -1,7 +1,7 @@
 // The words of a table's text, each once, which reader and writer go by (request C-12). It assumes nothing.
 #![tactic(auto)]
 
-ghost use Rattle.std.specs.Prelude.{◌≡◌, ◌<◌};
+ghost use Rattle.std.specs.Prelude.{◌≡◌, ◌<◌, length};
 ghost use Rattle.source.specs.Words.{many_words, word_of};
 
 pub const WORDS_MOST: usize = 33;
@@ -67,7 +67,8 @@ static WORDS: [&[u8]; WORDS_MOST] = [
 // The word of a row.
 pub fn word(row: usize) -> &'static [u8]
     requires { row < many_words }
-    ensures { result.now ≡ word_of row }
+    ensures same { result.now ≡ word_of row }
+    ensures short { length result.now < 16 }
 {
     WORDS[row]
 }

@@ -11,12 +11,12 @@ loop-row-init c = no_row refl refl
 
 pub returns-then-n-word : goal.returns-then-n-word
 returns-then-n-word c =
-    row_found c.requires.0 (between_to_end c.args.text.now c.args.at (length c.args.text.now) (omega arith)) c.shared-n.ensures c.loop-row.row c.word-word.ensures c.loop-row.auto.row c.loop-row-test.true c.if-n-word.true
+    row_found c.requires.0 (between_to_end c.args.text.now c.args.at (length c.args.text.now) (omega arith)) c.shared-n.ensures c.loop-row.row c.word-word.ensures.same c.loop-row.auto.row c.loop-row-test.true c.if-n-word.true
 
 pub loop-row-preserved : goal.loop-row-preserved
 loop-row-preserved c =
     rw c.max-far.ensures (row_tried c.loop-row.auto.row c.loop-row.invariant
-    (row_lost c.requires.0 (between_to_end c.args.text.now c.args.at (length c.args.text.now) (omega arith)) c.shared-n.ensures c.loop-row.row c.word-word.ensures (omega arith) c.if-n-word.false))
+    (row_lost c.requires.0 (between_to_end c.args.text.now c.args.at (length c.args.text.now) (omega arith)) c.shared-n.ensures c.loop-row.row c.word-word.ensures.same (omega arith) c.if-n-word.false))
 
 pub returns : goal.returns
 returns c = all_tried c.requires.1 (omega arith) c.loop-row.invariant
