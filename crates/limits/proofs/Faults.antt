@@ -7,8 +7,9 @@ use Prim.Native.Nat.{ℕ, ◌≤◌}
 use native.Mathlib.Omega.{arith}
 use lib.ListN.{get_or}
 use mathlib.Core.List.{[], ◌∷◌}
-use Rattle.limits.specs.Faults.{number_for, Tested, Refuses}
+use Rattle.limits.specs.Faults.{number_for, Named, Tested, Refuses}
 use Rattle.limits.specs.declared.Fault.{Fault}
+use Rattle.limits.specs.declared.UnknownFault.{UnknownFault}
 use Rattle.limits.specs.declared.Refusal.{Refusal}
 use Rattle.limits.specs.declared.Fault.TheVariants.{TableLength, Missing, WrongKind, WrongField, WrongType, TooDeep, WrongLoop, OverWords, BytesAfter, ForeignRecord, ShortStore, WrongPhase, RowLimit, RowLength, WrongFlag, ShortOutput}
 
@@ -72,6 +73,13 @@ tested_once n (Ok a) (Ok b) x y = refl
 tested_once n (Ok a) (Err g) x y = absurd (number_some g (sym y ∙ x))
 tested_once n (Err f) (Ok b) x y = absurd (number_some f (sym x ∙ y))
 tested_once n (Err f) (Err g) x y = ap Err (fault_once f g (sym x ∙ y))
+
+-- and what a byte is as a fault by the byte
+pub named_once : (n : ℕ) (a b : Result Fault UnknownFault) → Named n a → Named n b → a ≡ b
+named_once n (Ok f) (Ok g) x y = ap Ok (fault_once f g (sym x ∙ y))
+named_once n (Ok f) (Err e) x y = let h = number_within f in absurd (omega arith)
+named_once n (Err e) (Ok f) x y = let h = number_within f in absurd (omega arith)
+named_once n (Err d) (Err e) x y = λ i. Err (record { 0 = (sym x.0 ∙ y.0) i })
 
 -- ---- what becomes of a test by `map_err(|fault| fault.at(place))`
 
