@@ -1,13 +1,18 @@
 -- Each call's contract determines its answer, the store and the output (document 01, "What the contracts must exclude").
 -- Assumes nothing.
 use Rattle.std.proofs.Common.{Result, Ok, Err}
-use Prim.Native.Nat.{ℕ}
-use mathlib.Core.Path.{◌≡◌, sym, ap, ◌∙◌}
+use Prim.Native.Nat.{ℕ, ◌≤◌}
+use mathlib.Core.Path.{◌≡◌, refl, sym, ap, ◌∙◌}
 use mathlib.Core.List.{List}
+use native.Mathlib.Omega.{arith}
 use Rattle.limits.specs.declared.Refusal.{Refusal}
 use Rattle.limits.proofs.Faults.{number_some, fault_once}
 use Rattle.monitor.specs.declared.Run.{Run}
 use Rattle.monitor.specs.declared.Answer as code
+use Rattle.monitor.specs.declared.Phase.{Phase}
+use Rattle.monitor.specs.declared.Phase.TheVariants.{Reading, Draining, Over}
+use Rattle.monitor.specs.declared.UnknownPhase.{UnknownPhase}
+use Rattle.monitor.specs.Phases.{byte_of, IsPhase}
 use Rattle.monitor.specs.Refusals.{Fault, told}
 use Rattle.monitor.specs.Calls.{Answer, After, with_outcome, answered, open_call, row_call_of, close_call, drain_call_of, Leaves, Opens}
 
@@ -24,6 +29,29 @@ outcome_once r q (Err e) (Err f) h = (ap (λ (a : Answer). a.run) h, ap Err (tol
 
 pub answered_once : (a b : code.Answer) → answered a ≡ answered b → a ≡ b
 answered_once a b h = let p = outcome_once a.run b.run a.outcome b.outcome h in λ i. record { run = p.0 i; outcome = p.1 i }
+
+-- a phase is what its byte says, and so is what a byte is as a phase
+phase_same : (p q : Phase) → byte_of p ≡ byte_of q → p ≡ q
+phase_same Reading Reading e = refl
+phase_same Reading Draining e = absurd (omega arith)
+phase_same Reading Over e = absurd (omega arith)
+phase_same Draining Reading e = absurd (omega arith)
+phase_same Draining Draining e = refl
+phase_same Draining Over e = absurd (omega arith)
+phase_same Over Reading e = absurd (omega arith)
+phase_same Over Draining e = absurd (omega arith)
+phase_same Over Over e = refl
+
+at_most_over : (p : Phase) → byte_of p ≤ byte_of Over
+at_most_over Reading = omega arith
+at_most_over Draining = omega arith
+at_most_over Over = omega arith
+
+pub phase_once : (n : ℕ) (a b : Result Phase UnknownPhase) → IsPhase n a → IsPhase n b → a ≡ b
+phase_once n (Ok p) (Ok q) x y = ap Ok (phase_same p q (x ∙ sym y))
+phase_once n (Ok p) (Err e) x y = let h = at_most_over p in absurd (omega arith)
+phase_once n (Err e) (Ok p) x y = let h = at_most_over p in absurd (omega arith)
+phase_once n (Err d) (Err e) x y = λ i. Err (record { 0 = (x.0 ∙ sym y.0) i })
 
 -- two results of a call that are one
 pub record Same (a b : code.Answer) (st1 st2 out1 out2 : List ℕ) : Type 0 where
